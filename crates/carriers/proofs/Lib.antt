@@ -1,0 +1,4 @@
+mod Fades
+mod Firsts
+mod Lists
+mod Ring

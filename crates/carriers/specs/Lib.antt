@@ -1,0 +1,6 @@
+pub mod Ethers
+pub mod Fades
+pub mod Firsts
+pub mod Meaning
+pub mod Queues
+pub mod Scripts

@@ -1,0 +1,3 @@
+pub mod Priorities
+pub mod Roles
+pub mod Spells
