@@ -1,0 +1,2 @@
+pub mod Lates
+pub mod Runs
