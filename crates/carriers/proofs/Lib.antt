@@ -1,4 +1,2 @@
 mod Fades
-mod Firsts
-mod Lists
-mod Ring
+pub mod Laws

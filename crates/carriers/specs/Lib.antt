@@ -1,6 +1,4 @@
-pub mod Ethers
 pub mod Fades
 pub mod Firsts
 pub mod Meaning
 pub mod Queues
-pub mod Scripts

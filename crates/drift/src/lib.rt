@@ -4,4 +4,4 @@ mod run;
 
 pub use late::Lateness;
 pub use run::Report;
-pub use run::run_notices;
+pub use run::run_days;

@@ -12,7 +12,6 @@ pub use message::Cause;
 pub use message::DownlinkKind;
 pub use message::Kind;
 pub use message::Message;
-pub use message::MessagePartialEq;
 pub use message::StationKind;
 pub use message::UplinkKind;
 pub use outbox::Outbox;

@@ -7,7 +7,7 @@ use super::address::cell_address;
 use super::address::station_address;
 
 // On the air to a cell.
-#[derive(Clone, Copy, PartialEq, Eq)]
+#[derive(Clone, Copy)]
 pub enum DownlinkKind {
     Free,
     Busy,
@@ -17,7 +17,7 @@ pub enum DownlinkKind {
 }
 
 // On the air to a station.
-#[derive(Clone, Copy, PartialEq, Eq)]
+#[derive(Clone, Copy)]
 pub enum UplinkKind {
     Access,
     TalkerIndication,
@@ -25,7 +25,7 @@ pub enum UplinkKind {
 }
 
 // On the wire to the anchor.
-#[derive(Clone, Copy, PartialEq, Eq)]
+#[derive(Clone, Copy)]
 pub enum AnchorKind {
     Request,
     Confirmation,
@@ -33,7 +33,7 @@ pub enum AnchorKind {
 }
 
 // On the wire to a station.
-#[derive(Clone, Copy, PartialEq, Eq)]
+#[derive(Clone, Copy)]
 pub enum StationKind {
     Acknowledge,
     Reject,
@@ -41,7 +41,7 @@ pub enum StationKind {
     ReleaseCommand,
 }
 
-#[derive(Clone, Copy, PartialEq, Eq)]
+#[derive(Clone, Copy)]
 pub enum Kind {
     Downlink(DownlinkKind),
     Uplink(UplinkKind),
@@ -50,14 +50,14 @@ pub enum Kind {
 }
 
 // Why a station gives up a grant.
-#[derive(Clone, Copy, PartialEq, Eq)]
+#[derive(Clone, Copy)]
 pub enum Cause {
     CallControl,
     RadioMessageFailure,
     RadioFailure,
 }
 
-#[derive(Clone, Copy, PartialEq, Eq)]
+#[derive(Clone, Copy)]
 pub struct Message {
     pub address: u16,
     pub kind: Kind,

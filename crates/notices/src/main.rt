@@ -1,13 +1,10 @@
 // Ninety days of one station's notices, a line for each ten days.
 use drift::Lateness;
-use drift::run_notices;
+use drift::run_days;
 use station::Clock;
 use std::error::AnyError;
 use timing::Period;
 use timing::Time;
-
-// ten days at one notice each 200 ms
-const NOTICES: u32 = 4_320_000;
 
 fn main(rt: LibcRuntime) -> Result<(), AnyError> {
     rt.report(ninety_days(&rt))
@@ -29,8 +26,8 @@ fn ninety_days(rt: &impl Print) -> Result<(), AnyError> {
         "day\tnotices said\tms off the grid\tms late if restarted after each notice"
     )?;
     for tens in 1..=9u32 {
-        let report = run_notices(&mut clock, &mut lateness, NOTICES);
-        said = said.saturating_add(u64::from(report.said));
+        let report = run_days(&mut clock, &mut lateness, 10);
+        said = said.saturating_add(report.said);
         crept = crept.saturating_add(report.crept);
         let day = tens * 10;
         let worst = report.worst;

@@ -1,1 +1,2 @@
 mod Clocks
+pub mod Laws

@@ -1,6 +1,6 @@
 -- The notice clock: when it is sound, and when its next notice falls due.
 -- Assumes nothing.
-use Prim.Native.Nat.{ℕ, _+_, _-_, _*_, _%_, _≤_, _<_}
+use Prim.Native.Nat.{ℕ, _+_, _-_, _*_, _/_, _%_, _≤_, _<_}
 use mathlib.Core.Bool.{Bool, cond, _&&_}
 use mathlib.Core.Path.{_≡_}
 use lib.Dec.{eqb, leb, ltb}
@@ -28,3 +28,7 @@ pub record FirstAfter (start period time due : ℕ) : Type 0 where
   pub grid : OnGrid start period due
   pub after : time < due
   pub first : (earlier : ℕ) → OnGrid start period earlier → time < earlier → due ≤ earlier
+
+-- how many whole periods a day has
+abbrev pub per-day : (period : ℕ) → ℕ
+per-day period = 86400000 / period

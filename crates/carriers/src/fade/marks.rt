@@ -15,18 +15,6 @@ impl<C: Carrier> Fade<C> {
             next: 0,
         }
     }
-
-    // The carrier under it.
-    pub fn into_inner(self) -> C
-        ensures { λ r. ⌜ r ≡ self .under ⌝ }
-    {
-        let Fade {
-            under,
-            marks: _,
-            next: _,
-        } = self;
-        under
-    }
 }
 
 pub impl<C: Carrier> Carrier for Fade<C> as FadeCarrier {

@@ -4,7 +4,7 @@ ghost use lib.Dec.{leb};
 ghost use mathlib.Core.Bool.{true, false};
 ghost use mathlib.Core.Path.{_≡_};
 ghost use Rattle.std.specs.Options.{Cases};
-ghost use Rattle.station.specs.Clocks.{sound, next-due, due-after-reading, OnGrid, FirstAfter};
+ghost use Rattle.station.specs.Clocks.{sound, next-due, per-day, due-after-reading, FirstAfter};
 use super::Clock;
 use super::ClockRow;
 use timing::Period;
@@ -35,10 +35,16 @@ impl Clock {
 
     // When the next notice is due.
     pub fn due(&self) -> u64
-        ensures value { λ r. ⌜ r ≡ now (self .entry) .due ⌝ }
-        ensures grid { λ r. ⌜ OnGrid (now (self .entry) .start) (now (self .entry) .period .ms) r ⌝ }
+        ensures { λ r. ⌜ r ≡ now (self .entry) .due ⌝ }
     {
         self.due
+    }
+
+    // How many notices a day has.
+    pub fn per_day(&self) -> u64
+        ensures { λ r. ⌜ r ≡ per-day (now (self .entry) .period .ms) ⌝ }
+    {
+        86_400_000 / self.period.ms()
     }
 
     // How far the due time is from the grid: 0, for every clock there is.

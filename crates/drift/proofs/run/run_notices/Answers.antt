@@ -4,6 +4,7 @@ use native.Mathlib.Nat.{zero-add, add-zero}
 use native.Mathlib.Omega.{arith}
 use borrow.Author.Needs.{needs}
 use Rattle.station.specs.Clocks.{OnGrid}
+use Rattle.station.proofs.Laws.{on-grid}
 use Rattle.drift.specs.Lates.{total-late}
 use Rattle.drift.specs.Runs.{Passed}
 use Rattle.drift.specs.Runs.Passed.{none}
@@ -18,8 +19,9 @@ pub loop-said-again : need.loop-said-again
 loop-said-again c =
     let inv = c .loop-said .inv in
     let told = c .in-Some .ensures tt in
+    let at = c .loop-said .clock in
     let period = ap (λ p. p .ms) (inv .6) in
-    let grid = subst (λ (n : ℕ). OnGrid n (c .args .clock .now .period .ms) (c .loop-said .clock .due)) (inv .5) (subst (λ (n : ℕ). OnGrid (c .loop-said .clock .start) n (c .loop-said .clock .due)) period (told .grid)) in
+    let grid = subst (λ (n : ℕ). OnGrid n (c .args .clock .now .period .ms) (c .loop-said .clock .due)) (inv .5) (subst (λ (n : ℕ). OnGrid (c .loop-said .clock .start) n (c .loop-said .clock .due)) period (on-grid (at .start) (at .period .ms) (at .due) (omega arith) (at .later) (at .grid))) in
     (passed-more (c .args .clock .now .start) (c .args .clock .now .period .ms) (c .args .clock .now .due) (c .loop-said .said) (c .loop-said .clock .due) (c .say-notice .last .clock .due) (inv .0) grid (let next = told .said .0 in omega arith), search needs, late-more (c .loop-said .said) (c .loop-said .crept) (c .args .lateness .now .state) (c .loop-said .lateness .state) (c .in-Some .late) (c .say-notice .last .lateness .state) (inv .2) (told .said .1) (told .said .3), omega arith, (let few = told .said .2 in omega arith), told .kept .0 ∙ inv .5, told .kept .1 ∙ inv .6)
 
 -- how late the reads were together, where the run ends

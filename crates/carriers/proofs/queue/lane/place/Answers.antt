@@ -5,7 +5,7 @@ use borrow.Author.Count.{below-more}
 use lib.ListN.{length}
 use Rattle.std.proofs.shelf.Tests.{eq-eqb, ne-eqb}
 use Rattle.carriers.specs.Queues.{goes-to}
-use Rattle.carriers.proofs.Firsts.{nowhere, first-at, read-as}
+use Rattle.carriers.proofs.Laws.Firsts.{nowhere, first-at, read-as}
 use Rattle.carriers.proofs.queue.lane.place.Needs as need
 
 pub returns-then-message-address : need.returns-then-message-address

@@ -1,5 +1,5 @@
 use Rattle.carriers.specs.Queues.{goes-to}
-use Rattle.carriers.proofs.Firsts.{Passed}
+use Rattle.carriers.proofs.Laws.Firsts.{Passed}
 use Rattle.carriers.proofs.queue.lane.place.Given as given
 
 abbrev pub Inv-loop-i : given.InvT-loop-i

@@ -12,7 +12,7 @@ use Rattle.messages.specs.declared.message.Message.{Message}
 use Rattle.carriers.specs.Firsts.{first}
 use Rattle.carriers.specs.Meaning.{On, Within, Joined, FromList}
 use Rattle.carriers.specs.Queues.{has-room, goes-to}
-use Rattle.carriers.proofs.Lists.{joined-push, within-without-first, first-on}
+use Rattle.carriers.proofs.Laws.Lists.{joined-push, within-without-first, first-on}
 use Rattle.carriers.proofs.queue.lane.QueueCarrier.the-impl.Needs as need
 
 oldest-from : (a : ℕ) (waiting : List Message) (o : Option Message) → Cases o (Unit {0}) (λ m. On m (map (λ x. x) waiting) × (goes-to a m ≡ true)) → FromList a o waiting
