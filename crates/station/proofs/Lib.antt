@@ -1,2 +1,3 @@
 mod Clocks
 pub mod Laws
+mod Timers

@@ -1,5 +1,17 @@
-// A base station: its notice clock.
+// A base station: its notice clock, and its machine.
+mod air;
 mod clock;
+mod outboxes;
+mod row;
+mod timer;
+mod wire;
 
 pub use clock::Clock;
 pub use clock::ClockRow;
+pub use row::Pending;
+pub use row::Phase;
+pub use row::Station;
+pub use row::StationOutcome;
+pub use row::StationRefusal;
+pub use row::StationStep;
+pub use row::StationTimers;

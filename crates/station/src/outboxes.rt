@@ -1,0 +1,103 @@
+// What a station says in a step, as an outbox.
+ghost use mathlib.Core.List.{[], _∷_, _++_};
+ghost use mathlib.Core.Path.{_≡_};
+ghost use Rattle.messages.specs.Posts.{posts};
+ghost use Rattle.station.specs.Stations.{leaving, pending-is, sound-clock};
+ghost use Rattle.station.specs.declared.row.StationOutcome.the-variants.{Ignored, Acted};
+use messages::Message;
+use messages::Outbox;
+use messages::Post;
+use super::row::Phase;
+use super::row::Station;
+use super::row::StationOutcome;
+use super::row::StationStep;
+use super::clock::Clock;
+use timing::Period;
+
+pub(crate) fn one(post: Post) -> Outbox
+    ensures { λ r. ⌜ posts r ≡ post ∷ [] ⌝ }
+{
+    let mut outbox = Outbox::new();
+    outbox.push(post);
+    outbox
+}
+
+pub(crate) fn two(first: Post, second: Post) -> Outbox
+    ensures { λ r. ⌜ posts r ≡ first ∷ second ∷ [] ⌝ }
+{
+    let mut outbox = one(first);
+    outbox.push(second);
+    outbox
+}
+
+pub(crate) fn three(first: Post, second: Post, third: Post) -> Outbox
+    ensures { λ r. ⌜ posts r ≡ first ∷ second ∷ third ∷ [] ⌝ }
+{
+    let mut outbox = two(first, second);
+    outbox.push(third);
+    outbox
+}
+
+// A step that met no rule.
+pub(crate) fn ignored() -> StationStep
+    ensures { λ r. ⌜ (posts (r .outbox) ≡ []) × (r .outcome ≡ Ignored) ⌝ }
+{
+    StationStep {
+        outcome: StationOutcome::Ignored,
+        outbox: Outbox::new(),
+    }
+}
+
+// A step that says this.
+pub(crate) fn acted(outbox: Outbox) -> StationStep
+    ensures { λ r. ⌜ (r .outbox ≡ outbox) × (r .outcome ≡ Acted) ⌝ }
+{
+    StationStep {
+        outcome: StationOutcome::Acted,
+        outbox,
+    }
+}
+
+impl Station {
+    // Whether the clock is sound, or not looked at as in Shut.
+    pub fn has_sound_clock(&self, period: Period) -> bool
+        ensures { λ r. ⌜ r ≡ sound-clock (period .ms) (now (self .entry) .phase) (now (self .entry) .clock) ⌝ }
+    {
+        if let Phase::Shut = self.phase {
+            return true;
+        }
+        Clock::from_row(self.clock, period).is_some()
+    }
+
+    // Whether this pair is pending.
+    pub(crate) fn is_pending(&self, reference: u16, rank: u8) -> bool
+        ensures { λ r. ⌜ r ≡ pending-is (now (self .entry) .pending) reference rank ⌝ }
+    {
+        match self.pending {
+            Some(pair) => pair.reference == reference && pair.rank == rank,
+            None => false,
+        }
+    }
+
+    // A post, after the RELEASE that leaving Granted or Held says.
+    pub(crate) fn leaving_then(&self, number: u8, post: Post) -> Outbox
+        ensures { λ r. ⌜ posts r ≡ leaving number (now (self .entry) .phase) (now (self .entry) .top) ++ post ∷ [] ⌝ }
+    {
+        match self.phase {
+            Phase::Granted { .. } => two(Post::Air(Message::release(number, self.top)), post),
+            Phase::Held { .. } => two(Post::Air(Message::release(number, self.top)), post),
+            _ => one(post),
+        }
+    }
+
+    // The same with two posts.
+    pub(crate) fn leaving_then_two(&self, number: u8, first: Post, second: Post) -> Outbox
+        ensures { λ r. ⌜ posts r ≡ leaving number (now (self .entry) .phase) (now (self .entry) .top) ++ first ∷ second ∷ [] ⌝ }
+    {
+        match self.phase {
+            Phase::Granted { .. } => three(Post::Air(Message::release(number, self.top)), first, second),
+            Phase::Held { .. } => three(Post::Air(Message::release(number, self.top)), first, second),
+            _ => two(first, second),
+        }
+    }
+}
