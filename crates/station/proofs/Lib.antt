@@ -1,3 +1,5 @@
 mod Clocks
 pub mod Laws
+mod Notices
+mod Steps
 mod Timers

@@ -60,21 +60,20 @@ notice-said b time period row = at (not (is-shut (row .phase)) && leb (row .cloc
 
 -- the three parts, one after the other, are the timer
 module _
-  (b time period : ℕ)
-  (row one two three : Station)
-  (dropped noticed : Bool)
-  (expired : Option Post)
-  (step : StationStep)
-  (found-one : dropped ≡ drop-pending (row .pending) time row .found)
-  (row-one : one ≡ drop-pending (row .pending) time row .row)
-  (found-two : isSome expired ≡ expire-grant (one .phase) b time one .found)
-  (said-two : listOf expired ≡ expire-grant (one .phase) b time one .said)
-  (row-two : two ≡ expire-grant (one .phase) b time one .row)
-  (found-three : noticed ≡ give-notice b time period two .found)
-  (row-three : three ≡ give-notice b time period two .row)
-  (said : posts (step .outbox) ≡ listOf expired ++ cond noticed (notice (three .phase) b (three .top)) [])
-  (outcome : step .outcome ≡ timer-outcome (dropped || (isSome expired || noticed))) where
-
+    (b time period : ℕ)
+    (row one two three : Station)
+    (dropped noticed : Bool)
+    (expired : Option Post)
+    (step : StationStep)
+    (found-one : dropped ≡ drop-pending (row .pending) time row .found)
+    (row-one : one ≡ drop-pending (row .pending) time row .row)
+    (found-two : isSome expired ≡ expire-grant (one .phase) b time one .found)
+    (said-two : listOf expired ≡ expire-grant (one .phase) b time one .said)
+    (row-two : two ≡ expire-grant (one .phase) b time one .row)
+    (found-three : noticed ≡ give-notice b time period two .found)
+    (row-three : three ≡ give-notice b time period two .row)
+    (said : posts (step .outbox) ≡ listOf expired ++ cond noticed (notice (three .phase) b (three .top)) [])
+    (outcome : step .outcome ≡ timer-outcome (dropped || (isSome expired || noticed))) where
   before-notice : two ≡ expire-grant (drop-pending (row .pending) time row .row .phase) b time (drop-pending (row .pending) time row .row) .row
   before-notice = row-two ∙ ap (λ (s : Station). expire-grant (s .phase) b time s .row) row-one
 
@@ -86,9 +85,9 @@ module _
       record {
         row = row-three ∙ ap (λ (s : Station). give-notice b time period s .row) before-notice;
         said =
-          said
-          ∙ (λ i. (said-two ∙ ap (λ (s : Station). expire-grant (s .phase) b time s .said) row-one) i ++ (last-said ∙ ap (λ (s : Station). give-notice b time period s .said) before-notice) i);
+            said
+            ∙ (λ i. (said-two ∙ ap (λ (s : Station). expire-grant (s .phase) b time s .said) row-one) i ++ (last-said ∙ ap (λ (s : Station). give-notice b time period s .said) before-notice) i);
         outcome =
-          outcome
-          ∙ (λ i. timer-outcome (found-one i || ((found-two ∙ ap (λ (s : Station). expire-grant (s .phase) b time s .found) row-one) i || (found-three ∙ ap (λ (s : Station). give-notice b time period s .found) before-notice) i)));
+            outcome
+            ∙ (λ i. timer-outcome (found-one i || ((found-two ∙ ap (λ (s : Station). expire-grant (s .phase) b time s .found) row-one) i || (found-three ∙ ap (λ (s : Station). give-notice b time period s .found) before-notice) i)));
       }

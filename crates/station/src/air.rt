@@ -24,7 +24,14 @@ use timing::Time;
 
 impl Station {
     // Hears a message from a mobile.
-    pub fn hear_air<S: RankScheme>(&mut self, scheme: &S, number: u8, message: Message, time: Time, timers: StationTimers) -> Result<StationStep, StationRefusal>
+    pub fn hear_air<S: RankScheme>(
+        &mut self,
+        scheme: &S,
+        number: u8,
+        message: Message,
+        time: Time,
+        timers: StationTimers,
+    ) -> Result<StationStep, StationRefusal>
         ensures { λ r. ⌜ Cases r (λ step. (sound-clock (timers .period .ms) (now (self .entry) .phase) (now (self .entry) .clock) ≡ true) × Took (air-heard (S·RankScheme .above (now (scheme .entry))) number (time .ms) (timers .link .ms) message (now (self .entry))) (now (self .exit)) step) (λ refusal. (refusal ≡ BrokenClock) × (sound-clock (timers .period .ms) (now (self .entry) .phase) (now (self .entry) .clock) ≡ false) × (now (self .exit) ≡ now (self .entry))) ⌝ }
     {
         if !self.has_sound_clock(timers.period) {
@@ -34,7 +41,11 @@ impl Station {
     }
 
     // The radio of the talker that is held here is lost.
-    pub fn lose_radio(&mut self, number: u8, timers: StationTimers) -> Result<StationStep, StationRefusal>
+    pub fn lose_radio(
+        &mut self,
+        number: u8,
+        timers: StationTimers,
+    ) -> Result<StationStep, StationRefusal>
         ensures { λ r. ⌜ Cases r (λ step. (sound-clock (timers .period .ms) (now (self .entry) .phase) (now (self .entry) .clock) ≡ true) × (is-held (now (self .entry) .phase) ≡ true) × Took (radio-lost number (now (self .entry))) (now (self .exit)) step) (λ refusal. LossRefused (timers .period .ms) (now (self .entry)) refusal × (now (self .exit) ≡ now (self .entry))) ⌝ }
     {
         if !self.has_sound_clock(timers.period) {
@@ -52,7 +63,14 @@ impl Station {
         matches!(self.phase, Phase::Held { .. })
     }
 
-    fn answer<S: RankScheme>(&mut self, scheme: &S, number: u8, message: Message, time: Time, timers: StationTimers) -> StationStep
+    fn answer<S: RankScheme>(
+        &mut self,
+        scheme: &S,
+        number: u8,
+        message: Message,
+        time: Time,
+        timers: StationTimers,
+    ) -> StationStep
         ensures { λ r. ⌜ Took (air-heard (S·RankScheme .above (now (scheme .entry))) number (time .ms) (timers .link .ms) message (now (self .entry))) (now (self .exit)) r ⌝ }
     {
         let Kind::Uplink(kind) = message.kind else {
@@ -65,7 +83,14 @@ impl Station {
         }
     }
 
-    fn access<S: RankScheme>(&mut self, scheme: &S, number: u8, message: Message, time: Time, timers: StationTimers) -> StationStep
+    fn access<S: RankScheme>(
+        &mut self,
+        scheme: &S,
+        number: u8,
+        message: Message,
+        time: Time,
+        timers: StationTimers,
+    ) -> StationStep
         ensures { λ r. ⌜ Took (on-access (S·RankScheme .above (now (scheme .entry))) number (time .ms) (timers .link .ms) message (now (self .entry))) (now (self .exit)) r ⌝ }
     {
         if self.pending.is_some() || !self.admits(scheme, message.rank) {
@@ -74,7 +99,11 @@ impl Station {
         let reference = message.reference;
         let rank = message.rank;
         let deadline = time.ms() + timers.link.ms();
-        self.pending = Some(Pending { reference, rank, deadline });
+        self.pending = Some(Pending {
+            reference,
+            rank,
+            deadline,
+        });
         acted(one(Post::Wire(Message::request(number, reference, rank))))
     }
 
@@ -107,7 +136,11 @@ impl Station {
                 let confirmation = Message::confirmation(number, top, identity);
                 acted(two(Post::Air(ua), Post::Wire(confirmation)))
             }
-            Phase::Held { identity, .. } => acted(one(Post::Air(Message::ua(number, top, identity)))),
+            Phase::Held { identity, .. } => acted(one(Post::Air(Message::ua(
+                number,
+                top,
+                identity,
+            )))),
             _ => ignored(),
         }
     }

@@ -3,6 +3,7 @@ mod air;
 mod clock;
 mod outboxes;
 mod row;
+mod theorems;
 mod timer;
 mod wire;
 
@@ -15,3 +16,4 @@ pub use row::StationOutcome;
 pub use row::StationRefusal;
 pub use row::StationStep;
 pub use row::StationTimers;
+pub use theorems::station_laws;

@@ -4,14 +4,14 @@ ghost use mathlib.Core.Path.{_≡_};
 ghost use Rattle.messages.specs.Posts.{posts};
 ghost use Rattle.station.specs.Stations.{leaving, pending-is, sound-clock};
 ghost use Rattle.station.specs.declared.row.StationOutcome.the-variants.{Ignored, Acted};
-use messages::Message;
-use messages::Outbox;
-use messages::Post;
+use super::clock::Clock;
 use super::row::Phase;
 use super::row::Station;
 use super::row::StationOutcome;
 use super::row::StationStep;
-use super::clock::Clock;
+use messages::Message;
+use messages::Outbox;
+use messages::Post;
 use timing::Period;
 
 pub(crate) fn one(post: Post) -> Outbox
@@ -95,8 +95,16 @@ impl Station {
         ensures { λ r. ⌜ posts r ≡ leaving number (now (self .entry) .phase) (now (self .entry) .top) ++ first ∷ second ∷ [] ⌝ }
     {
         match self.phase {
-            Phase::Granted { .. } => three(Post::Air(Message::release(number, self.top)), first, second),
-            Phase::Held { .. } => three(Post::Air(Message::release(number, self.top)), first, second),
+            Phase::Granted { .. } => three(
+                Post::Air(Message::release(number, self.top)),
+                first,
+                second,
+            ),
+            Phase::Held { .. } => three(
+                Post::Air(Message::release(number, self.top)),
+                first,
+                second,
+            ),
             _ => two(first, second),
         }
     }

@@ -26,7 +26,12 @@ use timing::Period;
 use timing::Time;
 
 impl Station {
-    pub fn tick(&mut self, number: u8, time: Time, timers: StationTimers) -> Result<StationStep, StationRefusal>
+    pub fn tick(
+        &mut self,
+        number: u8,
+        time: Time,
+        timers: StationTimers,
+    ) -> Result<StationStep, StationRefusal>
         ensures { λ r. ⌜ Cases r (λ step. (sound-clock (timers .period .ms) (now (self .entry) .phase) (now (self .entry) .clock) ≡ true) × Took (timed number (time .ms) (timers .period .ms) (now (self .entry))) (now (self .exit)) step) (λ refusal. (refusal ≡ BrokenClock) × (sound-clock (timers .period .ms) (now (self .entry) .phase) (now (self .entry) .clock) ≡ false) × (now (self .exit) ≡ now (self .entry))) ⌝ }
     {
         if !self.has_sound_clock(timers.period) {
@@ -123,7 +128,10 @@ impl Station {
             Phase::Held { rank, .. } => one(Post::Air(Message::busy(number, rank))),
             Phase::Closing { rank, cause } => {
                 let indication = Message::release_indication(number, self.top, cause);
-                two(Post::Wire(indication), Post::Air(Message::busy(number, rank)))
+                two(
+                    Post::Wire(indication),
+                    Post::Air(Message::busy(number, rank)),
+                )
             }
         }
     }
@@ -139,7 +147,11 @@ impl Station {
             Phase::Held { rank, .. } => two(first, Post::Air(Message::busy(number, rank))),
             Phase::Closing { rank, cause } => {
                 let indication = Message::release_indication(number, self.top, cause);
-                three(first, Post::Wire(indication), Post::Air(Message::busy(number, rank)))
+                three(
+                    first,
+                    Post::Wire(indication),
+                    Post::Air(Message::busy(number, rank)),
+                )
             }
         }
     }

@@ -22,7 +22,13 @@ use timing::Time;
 
 impl Station {
     // Hears a message from the anchor.
-    pub fn hear_wire(&mut self, number: u8, message: Message, time: Time, timers: StationTimers) -> Result<StationStep, StationRefusal>
+    pub fn hear_wire(
+        &mut self,
+        number: u8,
+        message: Message,
+        time: Time,
+        timers: StationTimers,
+    ) -> Result<StationStep, StationRefusal>
         ensures { λ r. ⌜ Cases r (λ step. (sound-clock (timers .period .ms) (now (self .entry) .phase) (now (self .entry) .clock) ≡ true) × Took (wire-heard number (time .ms) (timers .link .ms) (timers .period .ms) message (now (self .entry))) (now (self .exit)) step) (λ refusal. (refusal ≡ BrokenClock) × (sound-clock (timers .period .ms) (now (self .entry) .phase) (now (self .entry) .clock) ≡ false) × (now (self .exit) ≡ now (self .entry))) ⌝ }
     {
         if !self.has_sound_clock(timers.period) {
@@ -31,7 +37,13 @@ impl Station {
         Ok(self.obey(number, message, time, timers))
     }
 
-    fn obey(&mut self, number: u8, message: Message, time: Time, timers: StationTimers) -> StationStep
+    fn obey(
+        &mut self,
+        number: u8,
+        message: Message,
+        time: Time,
+        timers: StationTimers,
+    ) -> StationStep
         ensures { λ r. ⌜ Took (wire-heard number (time .ms) (timers .link .ms) (timers .period .ms) message (now (self .entry))) (now (self .exit)) r ⌝ }
     {
         let Kind::Station(kind) = message.kind else {
@@ -46,7 +58,13 @@ impl Station {
         }
     }
 
-    fn acknowledge(&mut self, number: u8, message: Message, time: Time, timers: StationTimers) -> StationStep
+    fn acknowledge(
+        &mut self,
+        number: u8,
+        message: Message,
+        time: Time,
+        timers: StationTimers,
+    ) -> StationStep
         ensures { λ r. ⌜ Took (obey-acknowledge number (time .ms) (timers .link .ms) (timers .period .ms) message (now (self .entry))) (now (self .exit)) r ⌝ }
     {
         if message.grant <= self.top {
@@ -59,7 +77,13 @@ impl Station {
         }
     }
 
-    fn enter_granted(&mut self, number: u8, message: Message, time: Time, timers: StationTimers) -> StationStep
+    fn enter_granted(
+        &mut self,
+        number: u8,
+        message: Message,
+        time: Time,
+        timers: StationTimers,
+    ) -> StationStep
         ensures { λ r. ⌜ Took (enter-granted number (time .ms) (timers .link .ms) (timers .period .ms) message (now (self .entry))) (now (self .exit)) r ⌝ }
     {
         let grant = Message::grant(number, message.reference, message.rank, message.grant);
@@ -89,7 +113,13 @@ impl Station {
         acted(outbox)
     }
 
-    fn seize(&mut self, number: u8, message: Message, time: Time, timers: StationTimers) -> StationStep
+    fn seize(
+        &mut self,
+        number: u8,
+        message: Message,
+        time: Time,
+        timers: StationTimers,
+    ) -> StationStep
         ensures { λ r. ⌜ Took (on-seized number (time .ms) (timers .period .ms) message (now (self .entry))) (now (self .exit)) r ⌝ }
     {
         if message.grant <= self.top {
@@ -102,7 +132,13 @@ impl Station {
         acted(outbox)
     }
 
-    fn release(&mut self, number: u8, message: Message, time: Time, timers: StationTimers) -> StationStep
+    fn release(
+        &mut self,
+        number: u8,
+        message: Message,
+        time: Time,
+        timers: StationTimers,
+    ) -> StationStep
         ensures { λ r. ⌜ Took (on-release-command number (time .ms) (timers .period .ms) message (now (self .entry))) (now (self .exit)) r ⌝ }
     {
         if message.grant < self.top {
