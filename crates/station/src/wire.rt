@@ -122,13 +122,16 @@ impl Station {
     ) -> StationStep
         ensures { λ r. ⌜ Took (on-seized number (time .ms) (timers .period .ms) message (now (self .entry))) (now (self .exit)) r ⌝ }
     {
-        if message.grant <= self.top {
+        let rank = message.rank;
+        let grant = message.grant;
+        if grant <= self.top {
             return ignored();
         }
-        let outbox = self.leaving_then(number, Post::Air(Message::busy(number, message.rank)));
-        self.phase = Phase::Seized { rank: message.rank };
-        self.top = message.grant;
-        self.clock = Clock::started(time, timers.period).to_row();
+        let clock = Clock::started(time, timers.period);
+        let outbox = self.leaving_then(number, Post::Air(Message::busy(number, rank)));
+        self.phase = Phase::Seized { rank };
+        self.top = grant;
+        self.clock = clock.to_row();
         acted(outbox)
     }
 
