@@ -6,8 +6,6 @@ ghost use Rattle.station.specs.Stations.{Took, sound-clock, admits, is-held, c
 ghost use Rattle.station.specs.declared.row.StationRefusal.the-variants.{BrokenClock};
 use super::outboxes::acted;
 use super::outboxes::ignored;
-use super::outboxes::one;
-use super::outboxes::two;
 use super::row::Pending;
 use super::row::Phase;
 use super::row::Station;
@@ -17,6 +15,7 @@ use super::row::StationTimers;
 use messages::Cause;
 use messages::Kind;
 use messages::Message;
+use messages::Outbox;
 use messages::Post;
 use messages::UplinkKind;
 use schemes::RankScheme;
@@ -104,7 +103,7 @@ impl Station {
             rank,
             deadline,
         });
-        acted(one(Post::Wire(Message::request(number, reference, rank))))
+        acted(Outbox::one(Post::Wire(Message::request(number, reference, rank))))
     }
 
     // Free, or in a phase whose rank this one is above.
@@ -134,9 +133,9 @@ impl Station {
                 self.phase = Phase::Held { rank, identity };
                 let ua = Message::ua(number, top, identity);
                 let confirmation = Message::confirmation(number, top, identity);
-                acted(two(Post::Air(ua), Post::Wire(confirmation)))
+                acted(Outbox::two(Post::Air(ua), Post::Wire(confirmation)))
             }
-            Phase::Held { identity, .. } => acted(one(Post::Air(Message::ua(
+            Phase::Held { identity, .. } => acted(Outbox::one(Post::Air(Message::ua(
                 number,
                 top,
                 identity,
@@ -161,7 +160,7 @@ impl Station {
         match self.phase {
             Phase::Held { rank, .. } => {
                 self.phase = Phase::Closing { rank, cause };
-                acted(one(Post::Wire(Message::release_indication(number, self.top, cause))))
+                acted(Outbox::one(Post::Wire(Message::release_indication(number, self.top, cause))))
             }
             _ => ignored(),
         }

@@ -16,4 +16,4 @@ pub use row::StationOutcome;
 pub use row::StationRefusal;
 pub use row::StationStep;
 pub use row::StationTimers;
-pub use theorems::station_laws;
+pub use theorems::laws_hold;

@@ -1,4 +1,4 @@
-// What a station says in a step, as an outbox.
+// Parts of a station's steps: what is read from its row, and what a step says.
 ghost use mathlib.Core.List.{[], _∷_, _++_};
 ghost use mathlib.Core.Path.{_≡_};
 ghost use Rattle.messages.specs.Posts.{posts};
@@ -13,30 +13,6 @@ use messages::Message;
 use messages::Outbox;
 use messages::Post;
 use timing::Period;
-
-pub(crate) fn one(post: Post) -> Outbox
-    ensures { λ r. ⌜ posts r ≡ post ∷ [] ⌝ }
-{
-    let mut outbox = Outbox::new();
-    outbox.push(post);
-    outbox
-}
-
-pub(crate) fn two(first: Post, second: Post) -> Outbox
-    ensures { λ r. ⌜ posts r ≡ first ∷ second ∷ [] ⌝ }
-{
-    let mut outbox = one(first);
-    outbox.push(second);
-    outbox
-}
-
-pub(crate) fn three(first: Post, second: Post, third: Post) -> Outbox
-    ensures { λ r. ⌜ posts r ≡ first ∷ second ∷ third ∷ [] ⌝ }
-{
-    let mut outbox = two(first, second);
-    outbox.push(third);
-    outbox
-}
 
 // A step that met no rule.
 pub(crate) fn ignored() -> StationStep
@@ -84,9 +60,12 @@ impl Station {
         ensures { λ r. ⌜ posts r ≡ leaving number (now (self .entry) .phase) (now (self .entry) .top) ++ post ∷ [] ⌝ }
     {
         match self.phase {
-            Phase::Granted { .. } => two(Post::Air(Message::release(number, self.top)), post),
-            Phase::Held { .. } => two(Post::Air(Message::release(number, self.top)), post),
-            _ => one(post),
+            Phase::Granted { .. } => Outbox::two(
+                Post::Air(Message::release(number, self.top)),
+                post,
+            ),
+            Phase::Held { .. } => Outbox::two(Post::Air(Message::release(number, self.top)), post),
+            _ => Outbox::one(post),
         }
     }
 
@@ -95,17 +74,17 @@ impl Station {
         ensures { λ r. ⌜ posts r ≡ leaving number (now (self .entry) .phase) (now (self .entry) .top) ++ first ∷ second ∷ [] ⌝ }
     {
         match self.phase {
-            Phase::Granted { .. } => three(
+            Phase::Granted { .. } => Outbox::three(
                 Post::Air(Message::release(number, self.top)),
                 first,
                 second,
             ),
-            Phase::Held { .. } => three(
+            Phase::Held { .. } => Outbox::three(
                 Post::Air(Message::release(number, self.top)),
                 first,
                 second,
             ),
-            _ => two(first, second),
+            _ => Outbox::two(first, second),
         }
     }
 }

@@ -9,9 +9,6 @@ ghost use Rattle.std.specs.Vec.{listOf};
 ghost use Rattle.station.specs.Stations.{Took, sound-clock, drop-pending, expire-grant, notice, give-notice, timer-outcome, timed};
 ghost use Rattle.station.specs.declared.row.StationRefusal.the-variants.{BrokenClock};
 use super::clock::Clock;
-use super::outboxes::one;
-use super::outboxes::three;
-use super::outboxes::two;
 use super::row::Phase;
 use super::row::Station;
 use super::row::StationOutcome;
@@ -110,7 +107,7 @@ impl Station {
         ensures { λ r. ⌜ posts r ≡ listOf expired ++ cond noticed (notice (now (self .entry) .phase) number (now (self .entry) .top)) [] ⌝ }
     {
         match (noticed, expired) {
-            (false, Some(post)) => one(post),
+            (false, Some(post)) => Outbox::one(post),
             (false, None) => Outbox::new(),
             (true, Some(post)) => self.notice_after(number, post),
             (true, None) => self.notice(number),
@@ -122,13 +119,13 @@ impl Station {
     {
         match self.phase {
             Phase::Shut => Outbox::new(),
-            Phase::Free => one(Post::Air(Message::free(number))),
-            Phase::Seized { rank } => one(Post::Air(Message::busy(number, rank))),
-            Phase::Granted { rank, .. } => one(Post::Air(Message::busy(number, rank))),
-            Phase::Held { rank, .. } => one(Post::Air(Message::busy(number, rank))),
+            Phase::Free => Outbox::one(Post::Air(Message::free(number))),
+            Phase::Seized { rank } => Outbox::one(Post::Air(Message::busy(number, rank))),
+            Phase::Granted { rank, .. } => Outbox::one(Post::Air(Message::busy(number, rank))),
+            Phase::Held { rank, .. } => Outbox::one(Post::Air(Message::busy(number, rank))),
             Phase::Closing { rank, cause } => {
                 let indication = Message::release_indication(number, self.top, cause);
-                two(
+                Outbox::two(
                     Post::Wire(indication),
                     Post::Air(Message::busy(number, rank)),
                 )
@@ -140,14 +137,17 @@ impl Station {
         ensures { λ r. ⌜ posts r ≡ first ∷ notice (now (self .entry) .phase) number (now (self .entry) .top) ⌝ }
     {
         match self.phase {
-            Phase::Shut => one(first),
-            Phase::Free => two(first, Post::Air(Message::free(number))),
-            Phase::Seized { rank } => two(first, Post::Air(Message::busy(number, rank))),
-            Phase::Granted { rank, .. } => two(first, Post::Air(Message::busy(number, rank))),
-            Phase::Held { rank, .. } => two(first, Post::Air(Message::busy(number, rank))),
+            Phase::Shut => Outbox::one(first),
+            Phase::Free => Outbox::two(first, Post::Air(Message::free(number))),
+            Phase::Seized { rank } => Outbox::two(first, Post::Air(Message::busy(number, rank))),
+            Phase::Granted { rank, .. } => Outbox::two(
+                first,
+                Post::Air(Message::busy(number, rank)),
+            ),
+            Phase::Held { rank, .. } => Outbox::two(first, Post::Air(Message::busy(number, rank))),
             Phase::Closing { rank, cause } => {
                 let indication = Message::release_indication(number, self.top, cause);
-                three(
+                Outbox::three(
                     first,
                     Post::Wire(indication),
                     Post::Air(Message::busy(number, rank)),

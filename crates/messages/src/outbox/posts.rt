@@ -20,6 +20,30 @@ impl Outbox {
         }
     }
 
+    pub fn one(post: Post) -> Outbox
+        ensures { λ r. ⌜ posts r ≡ post ∷ [] ⌝ }
+    {
+        let mut outbox = Outbox::new();
+        outbox.push(post);
+        outbox
+    }
+
+    pub fn two(first: Post, second: Post) -> Outbox
+        ensures { λ r. ⌜ posts r ≡ first ∷ second ∷ [] ⌝ }
+    {
+        let mut outbox = Outbox::one(first);
+        outbox.push(second);
+        outbox
+    }
+
+    pub fn three(first: Post, second: Post, third: Post) -> Outbox
+        ensures { λ r. ⌜ posts r ≡ first ∷ second ∷ third ∷ [] ⌝ }
+    {
+        let mut outbox = Outbox::two(first, second);
+        outbox.push(third);
+        outbox
+    }
+
     // One more at the end, and true; where ten are there already, nothing, and false.
     pub fn push(&mut self, post: Post) -> bool
         ensures kept { λ r. ⌜ r ≡ ltb (length (posts (now (self .entry)))) 10 ⌝ }

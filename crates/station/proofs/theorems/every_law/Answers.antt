@@ -1,5 +1,5 @@
 use Rattle.station.proofs.Notices.{laws}
-use Rattle.station.proofs.theorems.station_laws.Needs as need
+use Rattle.station.proofs.theorems.every_law.Needs as need
 
 pub returns : need.returns
 returns c = laws
