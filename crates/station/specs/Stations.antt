@@ -8,6 +8,8 @@ use mathlib.Core.Path.{_≡_}
 use lib.Dec.{eqb, leb, ltb}
 use Rattle.std.specs.declared.option.Option.{Option}
 use Rattle.std.specs.declared.option.Option.the-variants.{Some, None}
+use Rattle.std.specs.declared.result.Result.{Result}
+use Rattle.std.specs.declared.result.Result.the-variants.{Ok, Err}
 use Rattle.messages.specs.Messages.{FREE, BUSY, GRANT, UA, RELEASE, REQUEST, CONFIRMATION, RELEASE-INDICATION}
 use Rattle.messages.specs.declared.message.Cause.{Cause}
 use Rattle.messages.specs.declared.message.Cause.the-variants.{CallControl, RadioMessageFailure, RadioFailure}
@@ -60,6 +62,12 @@ sound-clock period (Seized rank) clock = sound (clock .start) period (clock .due
 sound-clock period (Granted rank deadline) clock = sound (clock .start) period (clock .due)
 sound-clock period (Held rank identity) clock = sound (clock .start) period (clock .due)
 sound-clock period (Closing rank cause) clock = sound (clock .start) period (clock .due)
+
+-- a step with a sound clock takes what a definition says; with a broken one it is refused, and leaves the row
+abbrev pub Answers : (period : ℕ) → (before : Station) → StationActed → (after : Station) → Result StationStep StationRefusal → Type 0
+Answers period before acted after (Ok step) = (sound-clock period (before .phase) (before .clock) ≡ true) × Took acted after step
+Answers period before acted after (Err refusal) =
+    (refusal ≡ BrokenClock) × (sound-clock period (before .phase) (before .clock) ≡ false) × (after ≡ before)
 
 abbrev pub restarted : (time period : ℕ) → ClockRow
 restarted time period = record { start = time; due = time + period }

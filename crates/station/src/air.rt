@@ -1,11 +1,10 @@
 // A station's step on a message from a mobile, and on the loss of a talker's radio.
-ghost use mathlib.Core.Bool.{true, false};
+ghost use mathlib.Core.Bool.{true};
 ghost use mathlib.Core.Path.{_≡_};
 ghost use Rattle.std.specs.Results.{Cases};
-ghost use Rattle.station.specs.Stations.{Took, sound-clock, admits, is-held, closing, ignoring, LossRefused, on-access, on-talker-indication, on-end, air-heard, radio-lost};
-ghost use Rattle.station.specs.declared.row.StationRefusal.the-variants.{BrokenClock};
-use super::outboxes::acted;
-use super::outboxes::ignored;
+ghost use Rattle.station.specs.Stations.{Answers, Took, sound-clock, admits, is-held, closing, ignoring, LossRefused, on-access, on-talker-indication, on-end, air-heard, radio-lost};
+use super::parts::acted;
+use super::parts::ignored;
 use super::row::Pending;
 use super::row::Phase;
 use super::row::Station;
@@ -31,7 +30,7 @@ impl Station {
         time: Time,
         timers: StationTimers,
     ) -> Result<StationStep, StationRefusal>
-        ensures { λ r. ⌜ Cases r (λ step. (sound-clock (timers .period .ms) (now (self .entry) .phase) (now (self .entry) .clock) ≡ true) × Took (air-heard (S·RankScheme .above (now (scheme .entry))) number (time .ms) (timers .link .ms) message (now (self .entry))) (now (self .exit)) step) (λ refusal. (refusal ≡ BrokenClock) × (sound-clock (timers .period .ms) (now (self .entry) .phase) (now (self .entry) .clock) ≡ false) × (now (self .exit) ≡ now (self .entry))) ⌝ }
+        ensures { λ r. ⌜ Answers (timers .period .ms) (now (self .entry)) (air-heard (S·RankScheme .above (now (scheme .entry))) number (time .ms) (timers .link .ms) message (now (self .entry))) (now (self .exit)) r ⌝ }
     {
         if !self.has_sound_clock(timers.period) {
             return Err(StationRefusal::BrokenClock);

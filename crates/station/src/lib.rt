@@ -1,7 +1,7 @@
 // A base station: its notice clock, and its machine.
 mod air;
 mod clock;
-mod outboxes;
+mod parts;
 mod row;
 mod theorems;
 mod timer;

@@ -1,13 +1,11 @@
 // A station's timer: a pending pair, then a Granted deadline, then a notice.
-ghost use mathlib.Core.Bool.{true, false, cond};
+ghost use mathlib.Core.Bool.{true, cond};
 ghost use mathlib.Core.List.{[], _∷_, _++_};
 ghost use mathlib.Core.Path.{_≡_};
 ghost use Rattle.messages.specs.Posts.{posts};
 ghost use Rattle.std.specs.Options.{isSome};
-ghost use Rattle.std.specs.Results.{Cases};
 ghost use Rattle.std.specs.Vec.{listOf};
-ghost use Rattle.station.specs.Stations.{Took, sound-clock, drop-pending, expire-grant, notice, give-notice, timer-outcome, timed};
-ghost use Rattle.station.specs.declared.row.StationRefusal.the-variants.{BrokenClock};
+ghost use Rattle.station.specs.Stations.{Answers, Took, sound-clock, drop-pending, expire-grant, notice, give-notice, timer-outcome, timed};
 use super::clock::Clock;
 use super::row::Phase;
 use super::row::Station;
@@ -29,7 +27,7 @@ impl Station {
         time: Time,
         timers: StationTimers,
     ) -> Result<StationStep, StationRefusal>
-        ensures { λ r. ⌜ Cases r (λ step. (sound-clock (timers .period .ms) (now (self .entry) .phase) (now (self .entry) .clock) ≡ true) × Took (timed number (time .ms) (timers .period .ms) (now (self .entry))) (now (self .exit)) step) (λ refusal. (refusal ≡ BrokenClock) × (sound-clock (timers .period .ms) (now (self .entry) .phase) (now (self .entry) .clock) ≡ false) × (now (self .exit) ≡ now (self .entry))) ⌝ }
+        ensures { λ r. ⌜ Answers (timers .period .ms) (now (self .entry)) (timed number (time .ms) (timers .period .ms) (now (self .entry))) (now (self .exit)) r ⌝ }
     {
         if !self.has_sound_clock(timers.period) {
             return Err(StationRefusal::BrokenClock);

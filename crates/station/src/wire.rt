@@ -1,12 +1,8 @@
 // A station's step on a message from the anchor.
-ghost use mathlib.Core.Bool.{true, false};
-ghost use mathlib.Core.Path.{_≡_};
-ghost use Rattle.std.specs.Results.{Cases};
-ghost use Rattle.station.specs.Stations.{Took, sound-clock, enter-granted, give-back, obey-acknowledge, on-seized, on-release-command, on-reject, wire-heard};
-ghost use Rattle.station.specs.declared.row.StationRefusal.the-variants.{BrokenClock};
+ghost use Rattle.station.specs.Stations.{Answers, Took, enter-granted, give-back, obey-acknowledge, on-seized, on-release-command, on-reject, wire-heard};
 use super::clock::Clock;
-use super::outboxes::acted;
-use super::outboxes::ignored;
+use super::parts::acted;
+use super::parts::ignored;
 use super::row::Phase;
 use super::row::Station;
 use super::row::StationRefusal;
@@ -29,7 +25,7 @@ impl Station {
         time: Time,
         timers: StationTimers,
     ) -> Result<StationStep, StationRefusal>
-        ensures { λ r. ⌜ Cases r (λ step. (sound-clock (timers .period .ms) (now (self .entry) .phase) (now (self .entry) .clock) ≡ true) × Took (wire-heard number (time .ms) (timers .link .ms) (timers .period .ms) message (now (self .entry))) (now (self .exit)) step) (λ refusal. (refusal ≡ BrokenClock) × (sound-clock (timers .period .ms) (now (self .entry) .phase) (now (self .entry) .clock) ≡ false) × (now (self .exit) ≡ now (self .entry))) ⌝ }
+        ensures { λ r. ⌜ Answers (timers .period .ms) (now (self .entry)) (wire-heard number (time .ms) (timers .link .ms) (timers .period .ms) message (now (self .entry))) (now (self .exit)) r ⌝ }
     {
         if !self.has_sound_clock(timers.period) {
             return Err(StationRefusal::BrokenClock);
