@@ -1,5 +1,6 @@
 mod Clocks
 pub mod Laws
 mod Notices
+mod Restarts
 mod Steps
 mod Timers

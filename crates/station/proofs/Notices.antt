@@ -10,6 +10,7 @@ use lib.Dec.{eqb, leb, ltb}
 use Rattle.std.specs.declared.option.Option.{Option}
 use Rattle.std.specs.declared.option.Option.the-variants.{Some, None}
 use Rattle.std.proofs.shelf.Tests.{cond-both, cond-true, and-parts, not-true, ltb-true, leb-true, eqb-true, true≢false}
+use Rattle.messages.specs.declared.message.Cause.the-variants.{RadioFailure}
 use Rattle.messages.specs.declared.message.Message.{Message}
 use Rattle.messages.specs.declared.outbox.Post.{Post}
 use Rattle.messages.specs.declared.outbox.Post.the-variants.{Air, Wire}
@@ -21,8 +22,8 @@ use Rattle.station.specs.declared.row.Pending.{Pending}
 use Rattle.station.specs.declared.row.Phase.{Phase}
 use Rattle.station.specs.declared.row.Phase.the-variants.{Shut, Free, Seized, Granted, Held, Closing}
 use Rattle.station.specs.declared.row.Station.{Station}
-use Rattle.station.proofs.Clocks.{next-first}
-use Rattle.station.proofs.Laws.{on-grid}
+use Rattle.station.proofs.Clocks.{next-first, on-grid}
+use Rattle.station.proofs.Restarts.{wire-restarts, air-unclocked, closing-unclocked, timer-keeps}
 use Rattle.station.proofs.Steps.{step-lawful, says-split, one-identity}
 use Rattle.station.proofs.Timers.{Sound, dropped-sound, expired-sound}
 
@@ -106,5 +107,9 @@ module _ (above : ℕ → ℕ → Bool) (b link period : ℕ) where
         grant-on-entering = λ e row. step-lawful above b link period e row .grants;
         one-identity = λ first said row run. one-identity above b link period run;
         notice-on-grid = notice-on-grid;
+        restart-by-wire = λ m time row. wire-restarts above b link period (m .kind) time m row;
+        no-restart-by-air = λ m time row. air-unclocked above b link period (m .kind) time m row;
+        no-restart-by-loss = λ row. closing-unclocked above b link period (row .phase) RadioFailure (row .top) (row .pending) (row .clock);
+        no-entry-by-timer = timer-keeps above b link period;
         start-stays = λ time row. notice-start b time period (after-expiry time row .row) ∙ ap (λ (c : ClockRow). c .start) (clock-kept time row);
       }
