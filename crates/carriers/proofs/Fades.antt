@@ -3,14 +3,14 @@
 use Prim.Native.Nat.{ℕ}
 use mathlib.Core.Bool.{Bool, true, false, _||_}
 use mathlib.Core.List.{List}
-use mathlib.Core.Logic.{_⊎_, inl, inr, ⊎-elim}
+use mathlib.Core.Logic.{_⊎_, inl, ⊎-elim}
 use mathlib.Core.Path.{_≡_, sym, ap, subst, _∙_}
 use lib.Dec.{eqb}
 use Rattle.std.specs.Orderings.{When}
 use Rattle.std.proofs.shelf.Tests.{true≢false, false≢true}
 use Rattle.messages.specs.declared.message.Message.{Message}
 use Rattle.carriers.specs.Fades.{Twice, ByMark}
-use Rattle.carriers.specs.Meaning.{On, Joined}
+use Rattle.carriers.specs.Meaning.{Joined}
 
 module _
     {C : Type 0}

@@ -1,9 +1,8 @@
 -- What a station's timer says on the air is a notice that fell due on the grid of its clock.
 -- Assumes nothing.
-use Prim.Native.Nat.{ℕ, _-_, _%_, _≤_, _<_}
+use Prim.Native.Nat.{ℕ, _-_, _≤_, _<_}
 use mathlib.Core.Bool.{Bool, true, false, cond, not, _&&_}
-use mathlib.Core.List.{List, [], _∷_, _++_}
-use mathlib.Core.Logic.{_⊎_, inl, inr, ⊎-elim}
+use mathlib.Core.Logic.{_⊎_, ⊎-elim}
 use mathlib.Core.Path.{_≡_, refl, sym, ap, subst, _∙_}
 use native.Mathlib.Omega.{arith}
 use lib.Dec.{eqb, leb, ltb}
@@ -12,8 +11,7 @@ use Rattle.std.specs.declared.option.Option.the-variants.{Some, None}
 use Rattle.std.proofs.shelf.Tests.{cond-both, cond-true, and-parts, not-true, ltb-true, leb-true, eqb-true, true≢false}
 use Rattle.messages.specs.declared.message.Cause.the-variants.{RadioFailure}
 use Rattle.messages.specs.declared.message.Message.{Message}
-use Rattle.messages.specs.declared.outbox.Post.{Post}
-use Rattle.messages.specs.declared.outbox.Post.the-variants.{Air, Wire}
+use Rattle.messages.specs.declared.outbox.Post.the-variants.{Air}
 use Rattle.station.specs.Clocks.{sound, next-due, OnGrid, FirstAfter}
 use Rattle.station.specs.Laws.{Says, StationLaws}
 use Rattle.station.specs.Stations.{Part, station-row, sound-clock, is-shut, drop-pending, expire-grant, give-notice, timed}

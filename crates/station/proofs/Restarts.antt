@@ -10,14 +10,14 @@ use Rattle.std.specs.declared.option.Option.{Option}
 use Rattle.std.specs.declared.option.Option.the-variants.{Some, None}
 use Rattle.std.proofs.shelf.Tests.{cond-both, le-ltb}
 use Rattle.messages.specs.declared.message.Cause.{Cause}
-use Rattle.messages.specs.declared.message.Cause.the-variants.{CallControl, RadioFailure}
+use Rattle.messages.specs.declared.message.Cause.the-variants.{CallControl}
 use Rattle.messages.specs.declared.message.Kind.{Kind}
 use Rattle.messages.specs.declared.message.Kind.the-variants.{Downlink, Uplink, Anchor, Station as ToStation}
 use Rattle.messages.specs.declared.message.Message.{Message}
 use Rattle.messages.specs.declared.message.StationKind.the-variants.{Acknowledge, Reject, Seized as SeizedKind, ReleaseCommand}
 use Rattle.messages.specs.declared.message.UplinkKind.the-variants.{Access, TalkerIndication, End}
 use Rattle.station.specs.Laws.{enters, entered, ClockAfter}
-use Rattle.station.specs.Stations.{StationActed, Part, ignoring, station-row, restarted, pending-is, no-pending, is-shut, is-free, enter-granted, on-acknowledge, on-seized, on-release-command, on-reject, by-wire-kind, admits, on-access, of-top-indication, closing, by-air-kind, drop-pending, expire-grant, give-notice, timed}
+use Rattle.station.specs.Stations.{StationActed, Part, ignoring, station-row, restarted, pending-is, no-pending, is-shut, is-free, enter-granted, on-acknowledge, on-seized, on-release-command, on-reject, by-wire-kind, admits, of-top-indication, closing, by-air-kind, drop-pending, expire-grant, give-notice, timed}
 use Rattle.station.specs.declared.clock.ClockRow.{ClockRow}
 use Rattle.station.specs.declared.row.Pending.{Pending}
 use Rattle.station.specs.declared.row.Phase.{Phase}

@@ -9,11 +9,10 @@ use native.Mathlib.Omega.{arith}
 use lib.Dec.{eqb, leb, ltb}
 use Rattle.std.specs.declared.option.Option.{Option}
 use Rattle.std.specs.declared.option.Option.the-variants.{Some, None}
-use Rattle.std.proofs.shelf.Tests.{cases-order, cond-both, ltb-true, leb-true, eqb-true, true≢false}
-use Rattle.messages.specs.Messages.{FREE, BUSY, GRANT, UA, RELEASE, REQUEST, CONFIRMATION, RELEASE-INDICATION}
+use Rattle.std.proofs.shelf.Tests.{cases-order, cond-both, ltb-true, leb-true, true≢false}
+use Rattle.messages.specs.Messages.{BUSY, GRANT, UA, CONFIRMATION}
 use Rattle.messages.specs.declared.message.Cause.{Cause}
-use Rattle.messages.specs.declared.message.Cause.the-variants.{CallControl, RadioMessageFailure, RadioFailure}
-use Rattle.messages.specs.declared.message.DownlinkKind.{DownlinkKind}
+use Rattle.messages.specs.declared.message.Cause.the-variants.{CallControl, RadioFailure}
 use Rattle.messages.specs.declared.message.DownlinkKind.the-variants.{Free as FreeKind, Busy, Grant, Ua, Release}
 use Rattle.messages.specs.declared.message.Kind.{Kind}
 use Rattle.messages.specs.declared.message.Kind.the-variants.{Downlink, Uplink, Anchor, Station as ToStation}
@@ -22,9 +21,8 @@ use Rattle.messages.specs.declared.message.StationKind.the-variants.{Acknowledg
 use Rattle.messages.specs.declared.message.UplinkKind.the-variants.{Access, TalkerIndication, End}
 use Rattle.messages.specs.declared.outbox.Post.{Post}
 use Rattle.messages.specs.declared.outbox.Post.the-variants.{Air, Wire}
-use Rattle.station.specs.Clocks.{due-after-reading}
-use Rattle.station.specs.Laws.{StationEvent, Says, is-granted, stepped, StationRun, StationLaws}
-use Rattle.station.specs.Stations.{StationActed, Part, ignoring, acting, not-due, station-row, restarted, leaving, pending-is, no-pending, is-shut, is-free, enter-granted, give-back, obey-acknowledge, on-acknowledge, on-seized, on-release-command, on-reject, by-wire-kind, wire-heard, admits, on-access, of-top-indication, on-talker-indication, closing, on-end, by-air-kind, air-heard, radio-lost, drop-pending, expire-grant, notice, give-notice, timer-outcome, timed}
+use Rattle.station.specs.Laws.{StationEvent, Says, is-granted, stepped, StationRun}
+use Rattle.station.specs.Stations.{StationActed, Part, ignoring, acting, not-due, station-row, leaving, pending-is, no-pending, is-shut, is-free, enter-granted, on-acknowledge, on-seized, on-release-command, on-reject, by-wire-kind, admits, on-access, of-top-indication, closing, by-air-kind, drop-pending, expire-grant, notice, give-notice, timed}
 use Rattle.station.specs.declared.clock.ClockRow.{ClockRow}
 use Rattle.station.specs.declared.row.Pending.{Pending}
 use Rattle.station.specs.declared.row.Phase.{Phase}

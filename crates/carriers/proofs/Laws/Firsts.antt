@@ -5,14 +5,11 @@ use mathlib.Core.Bool.{Bool, true, false, cond}
 use mathlib.Core.List.{List, [], _∷_}
 use mathlib.Core.Path.{_≡_, refl, ap, _∙_}
 use native.Mathlib.Nat.{le-of-suc-le-suc, not-suc-le-zero}
-use native.Mathlib.Numerals.{add-one}
 use native.Mathlib.Omega.{arith}
-use lib.ListN.{length, getD, set, take, drop}
-use Rattle.std.specs.Holes.{removed}
-use Rattle.std.specs.declared.option.Option.the-variants.{Some}
+use lib.ListN.{length, getD}
 use Rattle.std.proofs.shelf.Lists.{getD-default}
 use Rattle.std.proofs.shelf.Tests.{cond-true, cond-false}
-use Rattle.carriers.specs.Firsts.{first, without-first, change-first, Nowhere, FirstAt}
+use Rattle.carriers.specs.Firsts.{first, Nowhere, FirstAt}
 
 -- the first n elements do not pass
 abbrev pub Passed : {X : Type 0} → (X → Bool) → List X → ℕ → Type 0

@@ -1,5 +1,4 @@
 use Prim.Native.Nat.{_*_, _≤_, _<_, _^_}
-use mathlib.Core.Path.{_≡_}
 use native.Mathlib.Nat.{div-le-self, mul-le-mul-right}
 use native.Mathlib.Omega.{arith}
 use Rattle.drift.proofs.run.notices_in.Needs as need

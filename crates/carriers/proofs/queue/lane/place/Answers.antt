@@ -1,8 +1,6 @@
-use Prim.Native.Nat.{_<_}
 use mathlib.Core.Bool.{true, false}
 use native.Mathlib.Omega.{arith}
 use borrow.Author.Count.{below-more}
-use lib.ListN.{length}
 use Rattle.std.proofs.shelf.Tests.{eq-eqb, ne-eqb}
 use Rattle.carriers.specs.Queues.{goes-to}
 use Rattle.carriers.proofs.Laws.Firsts.{nowhere, first-at, read-as}

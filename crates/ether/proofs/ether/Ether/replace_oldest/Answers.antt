@@ -1,7 +1,7 @@
-use Prim.Native.Nat.{ℕ, _+_, _<_}
-use mathlib.Core.Path.{_≡_, ap, _∙_}
+use Prim.Native.Nat.{ℕ}
+use mathlib.Core.Path.{ap, _∙_}
 use native.Mathlib.Omega.{arith}
-use lib.ListN.{length, set}
+use lib.ListN.{set}
 use Rattle.std.specs.Of.Vec.{vec-items}
 use Rattle.ether.specs.Ethers.{rotated}
 use Rattle.ether.proofs.Ring.{replaced, replaced-last}

@@ -1,11 +1,9 @@
-use mathlib.Core.Bool.{Bool, true, false, not, _&&_}
-use mathlib.Core.Path.{_≡_, ap, _∙_}
+use mathlib.Core.Bool.{true, false, not}
+use mathlib.Core.Path.{ap}
 use native.Mathlib.Omega.{arith}
 use borrow.Author.Count.{below-more}
-use lib.ListN.{getD}
 use Rattle.std.proofs.shelf.Tests.{eq-eqb, ne-eqb, and-from, and-left, and-right}
-use Rattle.messages.specs.Messages.{FREE}
-use Rattle.ether.specs.Ethers.{unheard, no-slot}
+use Rattle.ether.specs.Ethers.{unheard}
 use Rattle.carriers.proofs.Laws.Firsts.{nowhere, first-at, read-as}
 use Rattle.ether.proofs.ether.ring.find.Needs as need
 use Rattle.ether.proofs.ether.ring.find.Needs.{else-slot-address·by·then-slot-address·else-not-slot-listener, else-slot-address·by·else-slot-address}

@@ -1,8 +1,8 @@
-use Prim.Native.Nat.{_+_, _<_}
-use mathlib.Core.Bool.{true, false, _&&_}
-use mathlib.Core.Path.{_≡_, sym, ap, _∙_}
+use Prim.Native.Nat.{_+_}
+use mathlib.Core.Bool.{_&&_}
+use mathlib.Core.Path.{sym, ap, _∙_}
 use native.Mathlib.Omega.{arith}
-use lib.ListN.{length, drop}
+use lib.ListN.{drop}
 use Rattle.std.proofs.shelf.Lists.{at-drop-more, at-drop-all}
 use Rattle.schemes.specs.Roles.{all-in-limits, no-role}
 use Rattle.schemes.proofs.role_book.rows.all_in_limits.Needs as need
