@@ -1,4 +1,6 @@
 // The anchor: it hears the stations, keeps the grant book, and tells every station what stands.
+#![tactic(auto)]
+
 mod book;
 mod confirm;
 mod entry;

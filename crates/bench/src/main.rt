@@ -1,4 +1,5 @@
 // Scenarios of a group call, played over the engine, with a line for each answer.
+#![tactic(auto)]
 
 mod calls;
 mod contention;

@@ -1,4 +1,6 @@
 // The types of a group call: its settings, its record, the calls of a list, and their answers.
+#![tactic(auto)]
+
 mod answer;
 mod calls;
 mod numbers;

@@ -1,4 +1,6 @@
 // A long run of one station's notices, each read of the clock a few milliseconds late.
+#![tactic(auto)]
+
 mod late;
 mod run;
 

@@ -1,4 +1,6 @@
 // Tests of the edges of the rules, run as they are proved.
+#![tactic(auto)]
+
 #[cfg(test)]
 mod air;
 #[cfg(test)]

@@ -1,4 +1,6 @@
 // What a host uses: the opening of a group call, its ten calls, lists of calls, and the call that opens and plays.
+#![tactic(auto)]
+
 mod calls;
 mod conducts;
 mod enter;

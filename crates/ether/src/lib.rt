@@ -1,4 +1,6 @@
 // The Ether, the carrier of the air.
+#![tactic(auto)]
+
 mod ether;
 mod slot;
 

@@ -1,4 +1,6 @@
 // The messages of a group call, their addresses, and the outbox: what a party says in one step.
+#![tactic(auto)]
+
 mod address;
 mod message;
 mod outbox;

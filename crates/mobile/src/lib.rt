@@ -1,4 +1,6 @@
 // A mobile of the group call: its row, and its steps when its user asks or ends, when it hears a message and when its timer is read.
+#![tactic(auto)]
+
 mod ask;
 mod hear;
 mod last;

@@ -1,4 +1,6 @@
 // Ninety days of one station's notices, a line for each ten days.
+#![tactic(auto)]
+
 use anyhow::anyhow;
 use drift::{Lateness, run_days};
 use station::Clock;

@@ -1,4 +1,6 @@
 // A playlist: a text whose lines are settings, roles, mobiles and calls, read into its records or its first fault.
+#![tactic(auto)]
+
 mod bytes;
 mod checking;
 mod collecting;

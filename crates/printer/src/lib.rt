@@ -1,4 +1,6 @@
 // What a playlist prints.
+#![tactic(auto)]
+
 ghost use Rattle.std.specs.Prelude.{◌≡◌, List, ◌++◌, IfOk, Ok, OnOk};
 ghost use Rattle.playlist.specs.Collections.{collected, held, no_records};
 ghost use Rattle.playlist.specs.Forms.{Entry};

@@ -1,4 +1,6 @@
 // Rank schemes: how many ranks there are, and which is above which.
+#![tactic(auto)]
+
 mod priorities;
 mod role;
 mod role_book;

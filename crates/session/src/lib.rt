@@ -1,4 +1,6 @@
 // A session: a group call on a new Ether and a new Queue, where every answer is determined.
+#![tactic(auto)]
+
 ghost use Rattle.std.specs.Prelude.{◌≡◌, true, [], length, take, IfOk, Some, MatchResult};
 ghost use Rattle.call.specs.Openings.{refusal_at_opening};
 ghost use Rattle.dispatch.specs.Lent.{SameTables, Untouched};

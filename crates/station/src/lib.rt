@@ -1,4 +1,6 @@
 // A base station: its notice clock, and its machine.
+#![tactic(auto)]
+
 mod air;
 mod clock;
 mod parts;

@@ -1,4 +1,6 @@
 // A press to talk, message by message, over an Ether and a Queue: a run with a talk can happen.
+#![tactic(auto)]
+
 ghost use Rattle.std.specs.Prelude.{◌≡◌, true, false};
 ghost use Rattle.talk.specs.Steps.{Steps, both_quiet, freeing, granting, linking};
 ghost use Rattle.talk.specs.Talks.{TalkHappens};

@@ -1,4 +1,6 @@
 // Times, periods and timers within their limits, in whole milliseconds. A value of one of these types is always in range.
+#![tactic(auto)]
+
 mod period;
 mod time;
 mod timer;

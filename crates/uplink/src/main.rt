@@ -1,4 +1,6 @@
 // Plays a playlist from standard input, or each of the files named, and prints what every call answered.
+#![tactic(auto)]
+
 use printer::print;
 use std::io::{Read, Write};
 use std::{env, fs};

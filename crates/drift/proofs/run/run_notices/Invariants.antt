@@ -3,8 +3,8 @@ use Rattle.drift.specs.Lates.{total_late}
 use Rattle.drift.specs.Runs.{Passed}
 use Rattle.drift.proofs.run.run_notices.Given as goal
 
-abbrev pub invariant_loop_said : goal.invariant_loop_said
-invariant_loop_said l =
+abbrev pub invariant-loop-said : goal.invariant-loop-said
+invariant-loop-said l =
     Passed l.initial.clock.start l.initial.clock.period.ms l.initial.clock.due l.said l.clock.due
     × (l.worst ≡ 0)
     × ((m : ℕ) → total_late (l.said + m) l.initial.lateness.state ≡ l.crept + total_late m l.lateness.state)
@@ -13,5 +13,5 @@ invariant_loop_said l =
     × (l.clock.start ≡ l.initial.clock.start)
     × (l.clock.period ≡ l.initial.clock.period)
 
-abbrev pub decreases_loop_said : goal.decreases_loop_said
-decreases_loop_said l = l.notices - l.said
+abbrev pub decreases-loop-said : goal.decreases-loop-said
+decreases-loop-said l = l.notices - l.said

@@ -3,9 +3,9 @@ use Rattle.playlist.specs.Collections.{collected_in, held}
 use Rattle.playlist.specs.Stands.{reading_on, stand_of}
 use Rattle.playlist.proofs.collecting.collect.Given as goal
 
-abbrev pub invariant_loop_next : goal.invariant_loop_next
-invariant_loop_next l =
+abbrev pub invariant-loop-next : goal.invariant-loop-next
+invariant-loop-next l =
     collected_in (held l.playlist) (reading_on (stand_of l.reader)) ≡ collected_in (held l.initial.playlist) (reading_on (stand_of l.initial.reader))
 
-abbrev pub decreases_loop_next : goal.decreases_loop_next
-decreases_loop_next l = length (stand_of l.reader).left
+abbrev pub decreases-loop-next : goal.decreases-loop-next
+decreases-loop-next l = length (stand_of l.reader).left

@@ -4,8 +4,8 @@ use Rattle.playlist.specs.Scans.{after_line, fields_after, leading_line}
 use Rattle.playlist.proofs.Counting.{also}
 use Rattle.playlist.proofs.numbers.read_numbers.Given as goal
 
-abbrev pub invariant_loop_i : goal.invariant_loop_i
-invariant_loop_i l =
+abbrev pub invariant-loop-i : goal.invariant-loop-i
+invariant-loop-i l =
     (numbers l.kind 2 (fields_after (leading_line l.line)) ≡ also (take l.i l.values) (numbers l.kind (l.i + 2) (fields_after (leading_line l.left))))
     × (length (fields_after (leading_line l.line)) ≡ l.i + length (fields_after (leading_line l.left)))
     × (length l.values ≡ 5)

@@ -3,9 +3,9 @@ use Rattle.playlist.specs.Stands.{reading_on, stand_of}
 use Rattle.printer.proofs.Walking.{Going}
 use Rattle.printer.proofs.printing.put_rows.Given as goal
 
-abbrev pub invariant_loop_next : goal.invariant_loop_next
-invariant_loop_next l =
+abbrev pub invariant-loop-next : goal.invariant-loop-next
+invariant-loop-next l =
     Going (vec_items l.initial.out) (reading_on (stand_of l.initial.reader)) (vec_items l.out) l.answers l.next (reading_on (stand_of l.reader))
 
-abbrev pub decreases_loop_next : goal.decreases_loop_next
-decreases_loop_next l = length (stand_of l.reader).left
+abbrev pub decreases-loop-next : goal.decreases-loop-next
+decreases-loop-next l = length (stand_of l.reader).left

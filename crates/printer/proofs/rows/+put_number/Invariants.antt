@@ -1,4 +1,4 @@
 use Rattle.printer.proofs.rows.+put_number.Given as goal
 
-abbrev pub decreases_put_number : goal.decreases_put_number
-decreases_put_number l = l.number
+abbrev pub decreases-put_number : goal.decreases-put_number
+decreases-put_number l = l.number
