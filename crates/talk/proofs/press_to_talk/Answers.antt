@@ -10,6 +10,6 @@ returns c =
     and_from _ _ (sym c.quiet.ensures ∙ c.if-not-quiet.false) (sym c.quiet-else-not-quiet.ensures ∙ c.if-not-quiet-2.false) in
     record {
       quiet = sym quiet;
-      talk = λ _. happens c.args.air.now c.args.wire.now quiet c.free-the-floor.ensures c.grant-the-floor.ensures c.link-the-talker.ensures;
+      talk = λ _. happens c.args.air.now c.args.wire.now quiet c.free_the_floor.ensures c.grant_the_floor.ensures c.link_the_talker.ensures;
       kept = λ h. absurd (true≢false h);
     }

@@ -13,6 +13,6 @@ say-requires c =
 pub loop-before-preserved : goal.loop-before-preserved
 loop-before-preserved c =
     c.say.ensures
-    ∙ ap (λ xs. xs ++ Wire c.release-command.result ∷ []) c.loop-before.invariant
-    ∙ ap (λ m. commands c.args.grant c.loop-before.before ++ Wire m ∷ []) c.release-command.ensures
+    ∙ ap (λ xs. xs ++ Wire c.release_command.result ∷ []) c.loop-before.invariant
+    ∙ ap (λ m. commands c.args.grant c.loop-before.before ++ Wire m ∷ []) c.release_command.ensures
     ∙ sym (commands_more c.args.grant c.loop-before.before)

@@ -10,14 +10,14 @@ row_read : (period : ℕ) (rows : List Station) (i : ℕ) (d : Station) (b : Boo
 row_read period rows i d b within is =
     ap (λ x. x && every_clock_sound period (drop (i + 1) rows)) is ∙ sym (at_drop_more (every_clock_sound period) rows i d within)
 
-pub returns-then-not-has-sound-clock : goal.returns-then-not-has-sound-clock
-returns-then-not-has-sound-clock c =
-    row_read c.args.period.ms c.args.stations.now c.loop-station.station-index _ false c.loop-station-test.true c.if-not-has-sound-clock.ensures
+pub returns-then-not-has_sound_clock : goal.returns-then-not-has_sound_clock
+returns-then-not-has_sound_clock c =
+    row_read c.args.period.ms c.args.stations.now c.loop-station.station-index _ false c.loop-station-test.true c.if-not-has_sound_clock.ensures
     ∙ c.loop-station.invariant
 
 pub loop-station-preserved : goal.loop-station-preserved
 loop-station-preserved c =
-    row_read c.args.period.ms c.args.stations.now c.loop-station.station-index _ true c.loop-station-test.true c.if-not-has-sound-clock.ensures
+    row_read c.args.period.ms c.args.stations.now c.loop-station.station-index _ true c.loop-station-test.true c.if-not-has_sound_clock.ensures
     ∙ c.loop-station.invariant
 
 pub returns : goal.returns

@@ -10,20 +10,20 @@ loop-post-init g c = (done, refl)
 
 pub overflow-add-kept : goal.overflow-add-kept
 overflow-add-kept g c =
-    let items = ap length c.as-slice-post-items.ensures in
+    let items = ap length c.as_slice-post-items.ensures in
     let few = length-take c.args.outbox.now.used c.args.outbox.now.places in
     omega arith
 
 pub overflow-add-lost : goal.overflow-add-lost
 overflow-add-lost g c =
-    let items = ap length c.as-slice-post-items.ensures in
+    let items = ap length c.as_slice-post-items.ensures in
     let few = length-take c.args.outbox.now.used c.args.outbox.now.places in
     omega arith
 
 pub loop-post-preserved : goal.loop-post-preserved
 loop-post-preserved g c =
     let next = c.loop-post.post-index in
-    let items = c.as-slice-post-items.result.now in
+    let items = c.as_slice-post-items.result.now in
     elim c.if-say.branch [
       | then-say w ↦ (
         kept_next g.A.Carrier.says g.W.Carrier.says g.A.Carrier.hears g.W.Carrier.hears items next _ {a₂ = c.say.new.air} {w₂ = c.say.new.wire} c.loop-post-test.true c.loop-post.invariant.0 w.if-say.ensures w.kept-is w.lost-is,
@@ -37,4 +37,4 @@ loop-post-preserved g c =
 
 pub returns : goal.returns
 returns g c =
-    all_sent g.A.Carrier.says g.W.Carrier.says g.A.Carrier.hears g.W.Carrier.hears c.loop-post-test.false c.as-slice-post-items.ensures c.loop-post.invariant.0
+    all_sent g.A.Carrier.says g.W.Carrier.says g.A.Carrier.hears g.W.Carrier.hears c.loop-post-test.false c.as_slice-post-items.ensures c.loop-post.invariant.0

@@ -13,7 +13,7 @@ returns-in-MobileHears g c =
     let quiet : effect_alone above (frame_of group) c.args.call.now (lent group tables) ≡ idle c.in-MobileHears.time (lent group tables) =
     search rules in
     record {
-      frame = c.stay-idle.ensures.frame;
-      stepped = subst (λ (e : Effect). Stepped e (lent c.stay-idle.new.group tables) c.stay-idle.result) (sym quiet) (c.stay-idle.ensures.stepped tables);
+      frame = c.stay_idle.ensures.frame;
+      stepped = subst (λ (e : Effect). Stepped e (lent c.stay_idle.new.group tables) c.stay_idle.result) (sym quiet) (c.stay_idle.ensures.stepped tables);
       same = record { mobiles = refl; stations = refl; book = refl };
     }

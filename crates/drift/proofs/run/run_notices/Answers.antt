@@ -18,7 +18,7 @@ loop-said-preserved c =
     let at = c.loop-said.clock in
     let period = ap (λ p. p.ms) inv.6 in
     let grid = subst (λ (n : ℕ). OnGrid n c.args.clock.now.period.ms c.loop-said.clock.due) inv.5 (subst (λ (n : ℕ). OnGrid c.loop-said.clock.start n c.loop-said.clock.due) period (on_grid at.start at.period.ms at.due (omega arith) at.later at.grid)) in
-    (passed_more c.args.clock.now.start c.args.clock.now.period.ms c.args.clock.now.due c.loop-said.said c.loop-said.clock.due c.say-notice.new.clock.due inv.0 grid (let next = told.said.0 in omega arith), search rules, late_more c.loop-said.said c.loop-said.crept c.args.lateness.now.state c.loop-said.lateness.state c.in-Some.late c.say-notice.new.lateness.state inv.2 told.said.1 told.said.3, omega arith, (let few = told.said.2 in omega arith), told.kept.0 ∙ inv.5, told.kept.1 ∙ inv.6)
+    (passed_more c.args.clock.now.start c.args.clock.now.period.ms c.args.clock.now.due c.loop-said.said c.loop-said.clock.due c.say_notice.new.clock.due inv.0 grid (let next = told.said.0 in omega arith), search rules, late_more c.loop-said.said c.loop-said.crept c.args.lateness.now.state c.loop-said.lateness.state c.in-Some.late c.say_notice.new.lateness.state inv.2 told.said.1 told.said.3, omega arith, (let few = told.said.2 in omega arith), told.kept.0 ∙ inv.5, told.kept.1 ∙ inv.6)
 
 -- how late the reads were together, where the run ends
 crept_is : (said crept first state : ℕ) → ((m : ℕ) → total_late (said + m) first ≡ crept + total_late m state) → crept ≡ total_late said first

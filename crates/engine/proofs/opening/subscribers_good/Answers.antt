@@ -5,23 +5,23 @@ use Rattle.call.specs.Openings.{good_subscribers}
 use Rattle.engine.proofs.Subscribers.{next, all_writable}
 use Rattle.engine.proofs.opening.subscribers_good.Goals as goal
 
-pub returns-then-not-can-enter : goal.returns-then-not-can-enter
-returns-then-not-can-enter c =
+pub returns-then-not-can_enter : goal.returns-then-not-can_enter
+returns-then-not-can_enter c =
     record {
-      good = next c.args.stations.count c.args.subscribers.now c.loop-i.i _ false _ c.loop-i-test.true c.if-not-can-enter.ensures refl ∙ c.loop-i.invariant;
+      good = next c.args.stations.count c.args.subscribers.now c.loop-i.i _ false _ c.loop-i-test.true c.if-not-can_enter.ensures refl ∙ c.loop-i.invariant;
       writable = λ is. absurd (false≢true is);
     }
 
-pub returns-then-not-is-unused : goal.returns-then-not-is-unused
-returns-then-not-is-unused c =
+pub returns-then-not-is_unused : goal.returns-then-not-is_unused
+returns-then-not-is_unused c =
     record {
-      good = next c.args.stations.count c.args.subscribers.now c.loop-i.i _ true false c.loop-i-test.true c.if-not-can-enter.ensures c.if-not-is-unused.ensures ∙ c.loop-i.invariant;
+      good = next c.args.stations.count c.args.subscribers.now c.loop-i.i _ true false c.loop-i-test.true c.if-not-can_enter.ensures c.if-not-is_unused.ensures ∙ c.loop-i.invariant;
       writable = λ is. absurd (false≢true is);
     }
 
 pub loop-i-preserved : goal.loop-i-preserved
 loop-i-preserved c =
-    next c.args.stations.count c.args.subscribers.now c.loop-i.i _ true true c.loop-i-test.true c.if-not-can-enter.ensures c.if-not-is-unused.ensures
+    next c.args.stations.count c.args.subscribers.now c.loop-i.i _ true true c.loop-i-test.true c.if-not-can_enter.ensures c.if-not-is_unused.ensures
     ∙ c.loop-i.invariant
 
 pub returns : goal.returns

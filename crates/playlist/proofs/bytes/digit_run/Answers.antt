@@ -5,11 +5,11 @@ use Rattle.playlist.specs.Texts.{value_after}
 use Rattle.playlist.proofs.Parting.{digit_bounds, few_digits, front_here, front_on, one_more_digit}
 use Rattle.playlist.proofs.bytes.digit_run.Goals as goal
 
-pub returns-then-not-is-digit : goal.returns-then-not-is-digit
-returns-then-not-is-digit c =
+pub returns-then-not-is_digit : goal.returns-then-not-is_digit
+returns-then-not-is_digit c =
     let bs = c.args.bytes.now in
     let i = c.loop-i.i in
-    let none = front_here bs i (omega arith) c.if-not-is-digit.ensures in
+    let none = front_here bs i (omega arith) c.if-not-is_digit.ensures in
     (omega arith, omega arith, omega (arith, ap length none, c.loop-i.invariant.0), sym (ap (value_after c.loop-i.value) none) ∙ c.loop-i.invariant.1)
 
 pub overflow-mul-value : goal.overflow-mul-value
@@ -20,7 +20,7 @@ overflow-mul-value c =
 pub overflow-add-value : goal.overflow-add-value
 overflow-add-value c =
     let few = few_digits c.loop-i.i (omega arith) in
-    let b = digit_bounds (get_or c.args.bytes.now c.loop-i.i 0) c.if-not-is-digit.ensures in
+    let b = digit_bounds (get_or c.args.bytes.now c.loop-i.i 0) c.if-not-is_digit.ensures in
     omega (arith, few, b.1, c.from.ensures, c.loop-i.invariant.2)
 
 pub loop-i-preserved : goal.loop-i-preserved
@@ -28,9 +28,9 @@ loop-i-preserved c =
     let bs = c.args.bytes.now in
     let i = c.loop-i.i in
     let n = c.loop-i.value in
-    let b = digit_bounds (get_or bs i 0) c.if-not-is-digit.ensures in
+    let b = digit_bounds (get_or bs i 0) c.if-not-is_digit.ensures in
     let nine : c.from.result ≤ 9 = omega (arith, b.1, c.from.ensures) in
-    let more = front_on bs i (omega arith) c.if-not-is-digit.ensures in (
+    let more = front_on bs i (omega arith) c.if-not-is_digit.ensures in (
       omega (arith, ap length more, c.loop-i.invariant.0),
       ap (λ v. value_after (n * 10 + v) (digits_front (drop (i + 1) bs))) c.from.ensures ∙ sym (ap (value_after n) more) ∙ c.loop-i.invariant.1,
       one_more_digit n i c.from.result c.loop-i.invariant.2 nine,

@@ -5,14 +5,14 @@ use Rattle.playlist.specs.Scans.{fields_after, leading_line}
 use Rattle.playlist.proofs.Judging.{count_fields}
 use Rattle.playlist.proofs.numbers.bad_field.Goals as goal
 
-pub returns-then-span-number-count : goal.returns-then-span-number-count
-returns-then-span-number-count c =
+pub returns-then-span-number_count : goal.returns-then-span-number_count
+returns-then-span-number_count c =
     let n = length (fields_after (leading_line c.args.line.now)) in
     let count : n ≡ number_count c.args.kind =
-    count_fields c.args.line.now c.requires ∙ sym c.first-line-span.ensures.tabs ∙ c.if-span-number-count.true ∙ c.number_count.ensures in
+    count_fields c.args.line.now c.requires ∙ sym c.first_line-span.ensures.tabs ∙ c.if-span-number_count.true ∙ c.number_count.ensures in
     sym (cond-true (eqb n (number_count c.args.kind)) c.args.field 0 (eq-eqb n (number_count c.args.kind) count))
 
-pub returns-else-span-number-count : goal.returns-else-span-number-count
-returns-else-span-number-count c =
+pub returns-else-span-number_count : goal.returns-else-span-number_count
+returns-else-span-number_count c =
     let n = length (fields_after (leading_line c.args.line.now)) in
-    sym (cond-false (eqb n (number_count c.args.kind)) c.args.field 0 (ne_eqb n (number_count c.args.kind) (λ e. c.if-span-number-count.false (c.first-line-span.ensures.tabs ∙ sym (count_fields c.args.line.now c.requires) ∙ e ∙ sym c.number_count.ensures))))
+    sym (cond-false (eqb n (number_count c.args.kind)) c.args.field 0 (ne_eqb n (number_count c.args.kind) (λ e. c.if-span-number_count.false (c.first_line-span.ensures.tabs ∙ sym (count_fields c.args.line.now c.requires) ∙ e ∙ sym c.number_count.ensures))))

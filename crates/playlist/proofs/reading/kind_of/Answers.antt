@@ -13,6 +13,6 @@ returns-then-not-stops c =
 pub returns : goal.returns
 returns c =
     record {
-      kind = c.kind-by.ensures ∙ sym (one_letter c.args.text.now c.requires c.if-not-stops.ensures);
+      kind = c.kind_by.ensures ∙ sym (one_letter c.args.text.now c.requires c.if-not-stops.ensures);
       after = λ _. after_letter c.args.text.now c.if-not-stops.ensures;
     }

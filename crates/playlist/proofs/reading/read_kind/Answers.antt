@@ -6,8 +6,8 @@ use Rattle.playlist.proofs.Counting.{entry_bad, entry_read, reference_small}
 use Rattle.playlist.proofs.Judging.{line_end, number_fields}
 use Rattle.playlist.proofs.reading.read_kind.Goals as goal
 
-pub line-of-requires : goal.line-of-requires
-line-of-requires c =
+pub line_of-requires : goal.line_of-requires
+line_of-requires c =
     reference_small c.args.kind (fields_after (leading_line c.rest.result.now)) c.in-Ok.numbers.values c.in-Ok.ensures.0
 
 pub returns-in-Ok : goal.returns-in-Ok
@@ -16,7 +16,7 @@ returns-in-Ok c =
     let kind = c.args.kind in
     let parts : drop 1 (fields (leading_line text)) ≡ fields_after (leading_line c.rest.result.now) =
     number_fields text kind c.requires.0 ∙ ap (λ xs. fields_after (leading_line xs)) (sym c.rest.ensures) in (
-      entry_read kind (fields_after (leading_line c.rest.result.now)) (drop 1 (fields (leading_line text))) c.in-Ok.numbers.values (meant c.line-of.result) parts c.in-Ok.ensures.0 c.line-of.ensures,
+      entry_read kind (fields_after (leading_line c.rest.result.now)) (drop 1 (fields (leading_line text))) c.in-Ok.numbers.values (meant c.line_of.result) parts c.in-Ok.ensures.0 c.line_of.ensures,
       c.rest-in-Ok.ensures ∙ ap (drop 1) (c.in-Ok.ensures.1 ∙ ap after_line c.rest.ensures ∙ line_end text kind c.requires.0),
     )
 

@@ -7,7 +7,7 @@ pub returns-then-text-eq35 : goal.returns-then-text-eq35
 returns-then-text-eq35 c =
     let text = c.args.text.now in
     record {
-      line = (c.read-note.ensures.line, c.read-note.ensures.rest);
+      line = (c.read_note.ensures.line, c.read_note.ensures.rest);
       parts = line_and_others text c.requires;
       shorter = fewer_left text c.requires;
     }
@@ -21,24 +21,24 @@ returns-in-default c =
       shorter = fewer_left text c.requires;
     }
 
-pub returns-in-default-place-after : goal.returns-in-default-place-after
-returns-in-default-place-after c =
+pub returns-in-default-place_after : goal.returns-in-default-place_after
+returns-in-default-place_after c =
     let text = c.args.text.now in
     record {
-      line = wrong_order c.args.place text c.if-text-eq35.false c.in-Some.kind c.in-Some.ensures.kind c.in-default-place-after.ensures;
+      line = wrong_order c.args.place text c.if-text-eq35.false c.in-Some.kind c.in-Some.ensures.kind c.in-default-place_after.ensures;
       parts = line_and_others text c.requires;
       shorter = fewer_left text c.requires;
     }
 
-pub read-kind-requires : goal.read-kind-requires
-read-kind-requires c = (c.in-Some.ensures.kind, c.in-Some.ensures.after refl)
+pub read_kind-requires : goal.read_kind-requires
+read_kind-requires c = (c.in-Some.ensures.kind, c.in-Some.ensures.after refl)
 
 pub returns-in-Ok : goal.returns-in-Ok
 returns-in-Ok c =
     let text = c.args.text.now in
     record {
       line = (
-        good_line c.args.place text c.if-text-eq35.false c.in-Some.kind c.in-Some.ensures.kind c.in-Some-place-after.place c.in-Some-place-after.ensures (meant c.in-Ok.read.line) c.in-Ok.ensures.0,
+        good_line c.args.place text c.if-text-eq35.false c.in-Some.kind c.in-Some.ensures.kind c.in-Some-place_after.place c.in-Some-place_after.ensures (meant c.in-Ok.read.line) c.in-Ok.ensures.0,
         c.in-Ok.ensures.1,
       );
       parts = line_and_others text c.requires;
@@ -49,7 +49,7 @@ pub returns-in-Err : goal.returns-in-Err
 returns-in-Err c =
     let text = c.args.text.now in
     record {
-      line = bad_line c.args.place text c.if-text-eq35.false c.in-Some.kind c.in-Some.ensures.kind c.in-Some-place-after.place c.in-Some-place-after.ensures c.in-Err.field c.in-Err.ensures;
+      line = bad_line c.args.place text c.if-text-eq35.false c.in-Some.kind c.in-Some.ensures.kind c.in-Some-place_after.place c.in-Some-place_after.ensures c.in-Err.field c.in-Err.ensures;
       parts = line_and_others text c.requires;
       shorter = fewer_left text c.requires;
     }

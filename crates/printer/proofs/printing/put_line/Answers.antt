@@ -14,12 +14,12 @@ returns-then-next-answers c =
     let answers = c.args.answers.now in
     let next = c.args.next in
     let x = vec_items c.args.out.now in
-    let y = vec_items c.put-opening-before.new.out in
-    let z = vec_items c.put-answer.new.out in
+    let y = vec_items c.put_opening_before.new.out in
+    let z = vec_items c.put_answer.new.out in
     let there = c.if-next-answers.true in
     let is = ap meant c.in-Call.is in
-    let answer = c.in-ok-put-answer.ensures ∙ ap (λ (a : Answer). y ++ answer_row (next + 1) a) (get_or_default answers next _ opened there) in (
-      onto x y z (opening_before next) (answer_row (next + 1) (get_or answers next opened)) c.in-ok-put-opening-before.ensures answer
+    let answer = c.in-ok-put_answer.ensures ∙ ap (λ (a : Answer). y ++ answer_row (next + 1) a) (get_or_default answers next _ opened there) in (
+      onto x y z (opening_before next) (answer_row (next + 1) (get_or answers next opened)) c.in-ok-put_opening_before.ensures answer
           ∙ ap (λ (r : List ℕ). x ++ r) (sym (call_rows answers next (meant c.args.line) c.in-Call.field-0 is there)),
       call_next answers next (meant c.args.line) c.in-Call.field-0 is there,
     )

@@ -6,4 +6,4 @@ pub returns : goal.returns
 returns c =
     let bytes = c.args.bytes.now in
     onto (vec_items c.args.out.now) (vec_items c.push.new.self) (vec_items c.push-2.new.self) (35 ∷ []) (bytes ++ 10 ∷ []) c.in-ok-push.ensures.items
-    (onto (vec_items c.push.new.self) (vec_items c.extend-from-slice.new.self) (vec_items c.push-2.new.self) bytes (10 ∷ []) c.in-ok-extend-from-slice.ensures.items c.in-ok-push-2.ensures.items)
+    (onto (vec_items c.push.new.self) (vec_items c.extend_from_slice.new.self) (vec_items c.push-2.new.self) bytes (10 ∷ []) c.in-ok-extend_from_slice.ensures.items c.in-ok-push-2.ensures.items)

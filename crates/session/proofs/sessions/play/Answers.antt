@@ -8,29 +8,29 @@ use Rattle.session.proofs.sessions.play.Goals.{In-ok-hold}
 -- the tables that are lent, and the places for the answers
 
 abbrev lent_in : (g : Over) → In-ok-hold g → LentTables
-lent_in g c = record { mobiles = c.deref-mut.result; stations = c.deref-mut-2.result; book = c.deref-mut-3.result }
+lent_in g c = record { mobiles = c.deref_mut.result; stations = c.deref_mut-2.result; book = c.deref_mut-3.result }
 
 fresh : (g : Over) (c : In-ok-hold g) → FreshLent c.args.subscribers.now c.args.stations (lent_in g c)
 fresh g c =
     record {
-      rows = rows_made _ _ _ _ c.deref-mut.ensures.value c.in-ok-mobiles.ensures;
-      cells = rows_made _ _ _ _ c.deref-mut-2.ensures.value c.in-ok-rows.ensures;
-      blank = c.deref-mut-3.ensures.value ∙ c.in-ok-book.ensures;
+      rows = rows_made _ _ _ _ c.deref_mut.ensures.value c.in-ok-mobiles.ensures;
+      cells = rows_made _ _ _ _ c.deref_mut-2.ensures.value c.in-ok-rows.ensures;
+      blank = c.deref_mut-3.ensures.value ∙ c.in-ok-book.ensures;
     }
 
-many : (g : Over) (c : In-ok-hold g) → length c.deref-mut-4.result.now ≡ length c.args.calls.now
-many g c = rows_made _ _ _ _ c.deref-mut-4.ensures.value c.in-ok-answers.ensures
+many : (g : Over) (c : In-ok-hold g) → length c.deref_mut-4.result.now ≡ length c.args.calls.now
+many g c = rows_made _ _ _ _ c.deref_mut-4.ensures.value c.in-ok-answers.ensures
 
 filled : (g : Over) (c : In-ok-hold g) → length c.hold.new.answers ≡ c.in-ok-answers.answers.len
-filled g c = c.hold.auto.answers ∙ c.deref-mut-4.ensures.len
+filled g c = c.hold.auto.answers ∙ c.deref_mut-4.ensures.len
 
 pub unreachable-requires : goal.unreachable-requires
 unreachable-requires g c =
-    not_refused c.args.numbers.now c.args.subscribers.now c.args.stations (lent_in g (goal.at.unreachable-requires g c).In-ok-hold) c.hold.new.tables (fresh g (goal.at.unreachable-requires g c).In-ok-hold) (g.S.RankScheme.above c.args.scheme.now) g.S.RankScheme.count c.args.calls.now c.in-ok-answers.answers c.deref-mut-4.result.now c.hold.new.answers c.in-ok-hold.field-0 (many g (goal.at.unreachable-requires g c).In-ok-hold) c.requires c.in-Err.field-0 c.in-Err.is c.in-ok-hold.ensures.exact
+    not_refused c.args.numbers.now c.args.subscribers.now c.args.stations (lent_in g (goal.at.unreachable-requires g c).In-ok-hold) c.hold.new.tables (fresh g (goal.at.unreachable-requires g c).In-ok-hold) (g.S.RankScheme.above c.args.scheme.now) g.S.RankScheme.count c.args.calls.now c.in-ok-answers.answers c.deref_mut-4.result.now c.hold.new.answers c.in-ok-hold.field-0 (many g (goal.at.unreachable-requires g c).In-ok-hold) c.requires c.in-Err.field-0 c.in-Err.is c.in-ok-hold.ensures.exact
 
 pub returns : goal.returns
 returns g c =
     record {
-      exact = answers_so c.args.numbers.now c.args.subscribers.now c.args.stations (lent_in g (goal.at.returns g c).In-ok-hold) c.hold.new.tables (fresh g (goal.at.returns g c).In-ok-hold) (g.S.RankScheme.above c.args.scheme.now) g.S.RankScheme.count c.args.calls.now c.in-ok-answers.answers c.deref-mut-4.result.now c.hold.new.answers c.in-ok-hold.field-0 (filled g (goal.at.returns g c).In-ok-hold) (sym c.deref-mut-4.ensures.len ∙ many g (goal.at.returns g c).In-ok-hold) c.in-Ok.field-0 c.in-Ok.is c.in-ok-hold.ensures.exact;
-      guarantee = kept_so c.args.numbers.now c.args.subscribers.now c.args.stations (lent_in g (goal.at.returns g c).In-ok-hold) c.hold.new.tables (fresh g (goal.at.returns g c).In-ok-hold) (g.S.RankScheme.above c.args.scheme.now) g.S.RankScheme.count c.args.calls.now c.in-ok-answers.answers c.deref-mut-4.result.now c.hold.new.answers c.in-ok-hold.field-0 (filled g (goal.at.returns g c).In-ok-hold) c.in-Ok.field-0 c.in-Ok.is c.in-ok-hold.ensures.guarantee;
+      exact = answers_so c.args.numbers.now c.args.subscribers.now c.args.stations (lent_in g (goal.at.returns g c).In-ok-hold) c.hold.new.tables (fresh g (goal.at.returns g c).In-ok-hold) (g.S.RankScheme.above c.args.scheme.now) g.S.RankScheme.count c.args.calls.now c.in-ok-answers.answers c.deref_mut-4.result.now c.hold.new.answers c.in-ok-hold.field-0 (filled g (goal.at.returns g c).In-ok-hold) (sym c.deref_mut-4.ensures.len ∙ many g (goal.at.returns g c).In-ok-hold) c.in-Ok.field-0 c.in-Ok.is c.in-ok-hold.ensures.exact;
+      guarantee = kept_so c.args.numbers.now c.args.subscribers.now c.args.stations (lent_in g (goal.at.returns g c).In-ok-hold) c.hold.new.tables (fresh g (goal.at.returns g c).In-ok-hold) (g.S.RankScheme.above c.args.scheme.now) g.S.RankScheme.count c.args.calls.now c.in-ok-answers.answers c.deref_mut-4.result.now c.hold.new.answers c.in-ok-hold.field-0 (filled g (goal.at.returns g c).In-ok-hold) c.in-Ok.field-0 c.in-Ok.is c.in-ok-hold.ensures.guarantee;
     }

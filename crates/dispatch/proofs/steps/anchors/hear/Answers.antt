@@ -12,9 +12,9 @@ returns g c =
     let tables = c.args.tables.now in
     let number = c.hear-step.result.last in
     let timed =
-    at_time c.accept.new.self {last = cond (leb number group.places) number group.last} {ms = c.args.time} tables.mobiles.now tables.stations.now c.hear-step.new.book (c.accept.ensures.numbered ∙ c.number.ensures.numbered) c.accept.ensures.timed c.admitted-time-time.ensures in
+    at_time c.accept.new.self {last = cond (leb number group.places) number group.last} {ms = c.args.time} tables.mobiles.now tables.stations.now c.hear-step.new.book (c.accept.ensures.numbered ∙ c.number.ensures.numbered) c.accept.ensures.timed c.admitted_time-time.ensures in
     record {
       frame = c.accept.ensures.frame ∙ c.number.ensures.frame;
-      stepped = anchor_stepped above (frame_of group) (lent group tables) c.args.message c.stations.result.count c.last.result c.requires.good group.within (ap (λ (s : Stations). s.count) c.stations.ensures) c.last.ensures.0 c.hear-step.ensures c.anchor-step.ensures timed;
+      stepped = anchor_stepped above (frame_of group) (lent group tables) c.args.message c.stations.result.count c.last.result c.requires.good group.within (ap (λ (s : Stations). s.count) c.stations.ensures) c.last.ensures.0 c.hear-step.ensures c.anchor_step.ensures timed;
       same = search rules;
     }

@@ -14,6 +14,6 @@ returns g c =
     let row = mobile_at (lent group tables) c.args.mobile in
     record {
       frame = c.accept.ensures.frame;
-      stepped = mobile_stepped (λ time timers. heard above time timers c.args.message row) above (frame_of group) c.args.mobile (lent group tables) c.admitted-time-time.ensures c.settings.ensures c.mobile-timers-timers.ensures c.hear-step.ensures c.mobile-step.ensures (at_time c.accept.new.self (set tables.mobiles.now (c.args.mobile - 1) c.hear-step.new.self) tables.stations.now tables.book.now c.accept.ensures.numbered c.accept.ensures.timed c.admitted-time-time.ensures);
+      stepped = mobile_stepped (λ time timers. heard above time timers c.args.message row) above (frame_of group) c.args.mobile (lent group tables) c.admitted_time-time.ensures c.settings.ensures c.mobile_timers-timers.ensures c.hear-step.ensures c.mobile_step.ensures (at_time c.accept.new.self (set tables.mobiles.now (c.args.mobile - 1) c.hear-step.new.self) tables.stations.now tables.book.now c.accept.ensures.numbered c.accept.ensures.timed c.admitted_time-time.ensures);
       same = search rules;
     }

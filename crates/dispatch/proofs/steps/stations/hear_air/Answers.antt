@@ -5,4 +5,4 @@ use Rattle.dispatch.proofs.steps.stations.hear_air.Goals as goal
 
 pub unreachable-requires : goal.unreachable-requires
 unreachable-requires g c =
-    not_broken (frame_of c.args.group.now) (lent c.args.group.now c.args.tables.now) c.args.station c.requires.good c.settings.result c.station-timers-timers.result c.settings.ensures c.station-timers-timers.ensures c.in-Err.ensures.1
+    not_broken (frame_of c.args.group.now) (lent c.args.group.now c.args.tables.now) c.args.station c.requires.good c.settings.result c.station_timers-timers.result c.settings.ensures c.station_timers-timers.ensures c.in-Err.ensures.1

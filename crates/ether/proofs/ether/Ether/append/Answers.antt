@@ -5,7 +5,7 @@ use Rattle.ether.proofs.ether.Ether.append.Goals as goal
 pub returns : goal.returns
 returns c =
     let slots = vec_items c.args.self.now.slots in
-    let more = vec_items c.push-reserved.new.self in
+    let more = vec_items c.push_reserved.new.self in
     let zero : c.args.self.now.oldest ≡ 0 = search rules in
-    ap (λ (o : ℕ). rotated o more) zero ∙ append-nil more ∙ c.push-reserved.ensures.items
+    ap (λ (o : ℕ). rotated o more) zero ∙ append-nil more ∙ c.push_reserved.ensures.items
     ∙ sym (ap (λ (o : ℕ). rotated o slots ++ c.args.slot ∷ []) zero ∙ ap (λ l. l ++ c.args.slot ∷ []) (append-nil slots))
