@@ -8,14 +8,14 @@ use Rattle.dispatch.proofs.deliver.deliver.Goals.{then-say, else-say}
 pub loop-post-init : goal.loop-post-init
 loop-post-init g c = (done, refl)
 
-pub overflow-add-kept : goal.overflow-add-kept
-overflow-add-kept g c =
+pub overflow_add-kept : goal.overflow_add-kept
+overflow_add-kept g c =
     let items = ap length c.as_slice-post-items.ensures in
     let few = length-take c.args.outbox.now.used c.args.outbox.now.places in
     omega arith
 
-pub overflow-add-lost : goal.overflow-add-lost
-overflow-add-lost g c =
+pub overflow_add-lost : goal.overflow_add-lost
+overflow_add-lost g c =
     let items = ap length c.as_slice-post-items.ensures in
     let few = length-take c.args.outbox.now.used c.args.outbox.now.places in
     omega arith

@@ -8,8 +8,8 @@ few c =
     let all = mul-le-mul_right c.per_day.result days in
     omega (arith, c.per_day.ensures)
 
-pub overflow-mul-result : goal.overflow-mul-result
-overflow-mul-result c = record { fits = let most = few c in omega arith }
+pub overflow_mul-result : goal.overflow_mul-result
+overflow_mul-result c = record { fits = let most = few c in omega arith }
 
 pub returns : goal.returns
 returns c = (cc (c.from.ensures, c.per_day.ensures), few c)

@@ -35,10 +35,10 @@ returns-after-loop-said c =
       kept = (inv.5, inv.6);
     }
 
-pub returns-in-default : goal.returns-in-default
-returns-in-default c =
+pub returns-in_default : goal.returns-in_default
+returns-in_default c =
     let inv = c.loop-said.invariant in
-    let told = c.in-default.ensures in
+    let told = c.in_default.ensures in
     record {
       passed = subst (Passed c.args.clock.now.start c.args.clock.now.period.ms c.args.clock.now.due c.loop-said.said) (sym told.said.1) inv.0;
       worst = search rules;

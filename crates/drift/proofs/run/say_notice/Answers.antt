@@ -8,11 +8,11 @@ pub returns : goal.returns
 returns c =
     let clock = c.args.clock.now in
     let grid = on_grid clock.start clock.period.ms clock.due (omega arith) clock.later clock.grid in
-    let time = c.in-ok-time.ensures in
-    let due : clock.due ≤ c.in-ok-time.time.ms = omega arith in
-    let soon : c.in-ok-time.time.ms < clock.due + clock.period.ms = omega arith in
+    let time = c.in_ok-time.ensures in
+    let due : clock.due ≤ c.in_ok-time.time.ms = omega arith in
+    let soon : c.in_ok-time.time.ms < clock.due + clock.period.ms = omega arith in
     let first = c.read.ensures.first (c.read.ensures.due ∙ le-leb _ _ due) in
     record {
-      said = (one_period_on clock.start clock.period.ms clock.due c.in-ok-time.time.ms c.read.new.self.due grid first due soon, c.draw-late.ensures.value.0, c.draw-late.ensures.value.1, c.draw-late.ensures.after);
+      said = (one_period_on clock.start clock.period.ms clock.due c.in_ok-time.time.ms c.read.new.self.due grid first due soon, c.draw-late.ensures.value.0, c.draw-late.ensures.value.1, c.draw-late.ensures.after);
       kept = c.read.ensures.kept;
     }

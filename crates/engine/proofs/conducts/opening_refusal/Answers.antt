@@ -9,8 +9,8 @@ returns-in-Some g c =
 
 pub returns-then-not-quiet : goal.returns-then-not-quiet
 returns-then-not-quiet g c =
-    sym (not_quiet c.args.numbers.now c.args.subscribers.now (length c.args.tables.now.mobiles.now) (length c.args.tables.now.stations.now) (length c.args.tables.now.book.now) _ (sym c.check_opening.ensures ∙ c.in-default.is) (and_left _ _ (sym c.if-not-quiet.ensures)))
+    sym (not_quiet c.args.numbers.now c.args.subscribers.now (length c.args.tables.now.mobiles.now) (length c.args.tables.now.stations.now) (length c.args.tables.now.book.now) _ (sym c.check_opening.ensures ∙ c.in_default.is) (and_left _ _ (sym c.if-not-quiet.ensures)))
 
 pub returns-then-not-quiet-2 : goal.returns-then-not-quiet-2
 returns-then-not-quiet-2 g c =
-    sym (not_quiet c.args.numbers.now c.args.subscribers.now (length c.args.tables.now.mobiles.now) (length c.args.tables.now.stations.now) (length c.args.tables.now.book.now) _ (sym c.check_opening.ensures ∙ c.in-default.is) (and_right _ _ (sym c.if-not-quiet-2.ensures)))
+    sym (not_quiet c.args.numbers.now c.args.subscribers.now (length c.args.tables.now.mobiles.now) (length c.args.tables.now.stations.now) (length c.args.tables.now.book.now) _ (sym c.check_opening.ensures ∙ c.in_default.is) (and_right _ _ (sym c.if-not-quiet-2.ensures)))

@@ -12,13 +12,13 @@ returns-then-not-is_digit c =
     let none = front_here bs i (omega arith) c.if-not-is_digit.ensures in
     (omega arith, omega arith, omega (arith, ap length none, c.loop-i.invariant.0), sym (ap (value_after c.loop-i.value) none) ∙ c.loop-i.invariant.1)
 
-pub overflow-mul-value : goal.overflow-mul-value
-overflow-mul-value c =
+pub overflow_mul-value : goal.overflow_mul-value
+overflow_mul-value c =
     let few = few_digits c.loop-i.i (omega arith) in
     omega (arith, few, c.loop-i.invariant.2)
 
-pub overflow-add-value : goal.overflow-add-value
-overflow-add-value c =
+pub overflow_add-value : goal.overflow_add-value
+overflow_add-value c =
     let few = few_digits c.loop-i.i (omega arith) in
     let b = digit_bounds (get_or c.args.bytes.now c.loop-i.i 0) c.if-not-is_digit.ensures in
     omega (arith, few, b.1, c.from.ensures, c.loop-i.invariant.2)

@@ -2,8 +2,8 @@ use Rattle.std.proofs.Common.{drop, sym, ap, ◌∙◌}
 use Rattle.playlist.proofs.Parting.{bad_lead, field_length, goes_on, good_number, too_many_digits}
 use Rattle.playlist.proofs.numbers.cut_number.Goals as goal
 
-pub returns-in-default : goal.returns-in-default
-returns-in-default c = too_many_digits c.args.bytes.now c.in-default.ensures
+pub returns-in_default : goal.returns-in_default
+returns-in_default c = too_many_digits c.args.bytes.now c.in_default.ensures
 
 pub returns-then-not-stops : goal.returns-then-not-stops
 returns-then-not-stops c =

@@ -14,8 +14,8 @@ returns-then-at_line_end c =
     wrong_count c.args.kind (fields_after (leading_line c.args.line.now))
     (λ e. omega (arith, ap length none.0, c.loop-i.invariant.1, c.number_count-i-end.ensures, c.loop-i-test.true))
 
-pub returns-in-default : goal.returns-in-default
-returns-in-default c =
+pub returns-in_default : goal.returns-in_default
+returns-in_default c =
     let kind = c.args.kind in
     let fs = fields_after (leading_line c.args.line.now) in
     let left = c.loop-i.left.now in
@@ -23,7 +23,7 @@ returns-in-default c =
     let some : 0 < length (leading_line left) = omega (arith, ne) in
     let i = c.loop-i.i in
     let f = first_field (drop 1 left) in
-    bad_count_or_field kind fs (i + 2) (one_bad kind (numbers kind 2 fs) c.loop-i.values f (fields_after (leading_line left)) (fields_after (leading_line (drop (length f) (drop 1 left)))) i c.loop-i.invariant.0 (next_field left some) c.in-default.ensures)
+    bad_count_or_field kind fs (i + 2) (one_bad kind (numbers kind 2 fs) c.loop-i.values f (fields_after (leading_line left)) (fields_after (leading_line (drop (length f) (drop 1 left)))) i c.loop-i.invariant.0 (next_field left some) c.in_default.ensures)
     ∙ ap bad_numbers (sym c.bad_field.ensures)
 
 pub loop-i-preserved : goal.loop-i-preserved

@@ -12,20 +12,20 @@ returns-then-text-eq35 c =
       shorter = fewer_left text c.requires;
     }
 
-pub returns-in-default : goal.returns-in-default
-returns-in-default c =
+pub returns-in_default : goal.returns-in_default
+returns-in_default c =
     let text = c.args.text.now in
     record {
-      line = no_letter_here c.args.place text c.if-text-eq35.false c.in-default.ensures.kind;
+      line = no_letter_here c.args.place text c.if-text-eq35.false c.in_default.ensures.kind;
       parts = line_and_others text c.requires;
       shorter = fewer_left text c.requires;
     }
 
-pub returns-in-default-place_after : goal.returns-in-default-place_after
-returns-in-default-place_after c =
+pub returns-in_default-place_after : goal.returns-in_default-place_after
+returns-in_default-place_after c =
     let text = c.args.text.now in
     record {
-      line = wrong_order c.args.place text c.if-text-eq35.false c.in-Some.kind c.in-Some.ensures.kind c.in-default-place_after.ensures;
+      line = wrong_order c.args.place text c.if-text-eq35.false c.in-Some.kind c.in-Some.ensures.kind c.in_default-place_after.ensures;
       parts = line_and_others text c.requires;
       shorter = fewer_left text c.requires;
     }

@@ -11,8 +11,8 @@ returns c =
     let x2 = vec_items c.put_tabbed.new.out in
     let x3 = vec_items c.put_tabbed-2.new.out in
     let x4 = vec_items c.push.new.self in
-    let t1 : x2 ≡ x1 ++ 9 ∷ decimal f.line = c.in-ok-put_tabbed.ensures ∙ ap (λ (n : ℕ). x1 ++ 9 ∷ decimal n) c.from.ensures in
-    let t2 : x3 ≡ x2 ++ 9 ∷ decimal f.field = c.in-ok-put_tabbed-2.ensures ∙ ap (λ (n : ℕ). x2 ++ 9 ∷ decimal n) c.from-2.ensures in
-    let p2 = onto x2 x3 x4 (9 ∷ decimal f.field) (10 ∷ []) t2 c.in-ok-push.ensures.items in
+    let t1 : x2 ≡ x1 ++ 9 ∷ decimal f.line = c.in_ok-put_tabbed.ensures ∙ ap (λ (n : ℕ). x1 ++ 9 ∷ decimal n) c.from.ensures in
+    let t2 : x3 ≡ x2 ++ 9 ∷ decimal f.field = c.in_ok-put_tabbed-2.ensures ∙ ap (λ (n : ℕ). x2 ++ 9 ∷ decimal n) c.from-2.ensures in
+    let p2 = onto x2 x3 x4 (9 ∷ decimal f.field) (10 ∷ []) t2 c.in_ok-push.ensures.items in
     let p1 = onto x1 x2 x4 (9 ∷ decimal f.line) (tabbed (f.field ∷ [])) t1 p2 in
-    onto x0 x1 x4 (decimal 10) (tabbed (f.line ∷ f.field ∷ [])) c.in-ok-put_number.ensures p1
+    onto x0 x1 x4 (decimal 10) (tabbed (f.line ∷ f.field ∷ [])) c.in_ok-put_number.ensures p1

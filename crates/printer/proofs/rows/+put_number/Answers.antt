@@ -5,11 +5,11 @@ use Rattle.printer.proofs.rows.+put_number.Goals as goal
 
 pub returns-then-number-lt10 : goal.returns-then-number-lt10
 returns-then-number-lt10 t c =
-    c.in-ok-push.ensures.items ∙ ap (λ (d : List ℕ). vec_items c.args.out.now ++ d) (sym (decimal_digit c.args.number c.if-number-lt10.true))
+    c.in_ok-push.ensures.items ∙ ap (λ (d : List ℕ). vec_items c.args.out.now ++ d) (sym (decimal_digit c.args.number c.if-number-lt10.true))
 
 pub returns : goal.returns
 returns t c =
     let n = c.args.number in
     let small : n < 2 ^ 64 = omega arith in
-    onto (vec_items c.args.out.now) (vec_items c.put_number.new.out) (vec_items c.push-2.new.self) (decimal (n / 10)) ((48 + n % 10) ∷ []) c.in-ok-put_number.ensures c.in-ok-push-2.ensures.items
+    onto (vec_items c.args.out.now) (vec_items c.put_number.new.out) (vec_items c.push-2.new.self) (decimal (n / 10)) ((48 + n % 10) ∷ []) c.in_ok-put_number.ensures c.in_ok-push-2.ensures.items
     ∙ ap (λ (d : List ℕ). vec_items c.args.out.now ++ d) (sym (decimal_step n c.if-number-lt10.false small))

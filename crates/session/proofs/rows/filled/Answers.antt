@@ -8,5 +8,5 @@ grown n x xs len none zero = rw (none, zero, take-nil, sub-zero)
 
 pub returns : goal.returns
 returns g c =
-    c.in-ok-resize.ensures.items
+    c.in_ok-resize.ensures.items
     ∙ grown c.args.count c.args.row c.new-rows.result.items c.new-rows.result.len c.new-rows.ensures.items c.new-rows.ensures.len

@@ -29,19 +29,19 @@ session_so numbers subscribers roles stations calls answers above ranks scheme c
 pub returns-then-is_empty : goal.returns-then-is_empty
 returns-then-is_empty c =
     let roles : List Role = c.args.roles.now in
-    let none : no_roles roles ≡ true = sym c.nothing_waits.ensures ∙ c.if-is_empty.true in
+    let none : no_roles roles ≡ true = sym c.is_empty.ensures ∙ c.if-is_empty.true in
     let scheme : greater ≡ above_for roles = sym (ap (λ (b : Bool). cond b greater (outranks roles)) none) in
     let count : 3 ≡ ranks_for roles = sym (ap (λ (b : Bool). cond {A = ℕ} b 3 16) none) in
     let good : roles_good roles ≡ true = ap (λ (b : Bool). b || (eqb (length roles) 16 && every_in_limits roles)) none in
-    let s = session_so c.args.numbers.now c.args.subscribers.now roles c.args.stations c.args.calls.now c.in-ok-answers.answers.items greater 3 scheme count good c.requires c.in-ok-answers.ensures.exact c.in-ok-answers.ensures.guarantee in
+    let s = session_so c.args.numbers.now c.args.subscribers.now roles c.args.stations c.args.calls.now c.in_ok-answers.answers.items greater 3 scheme count good c.requires c.in_ok-answers.ensures.exact c.in_ok-answers.ensures.guarantee in
     record { exact = (s.0, s.1); guarantee = s.2 }
 
 pub returns : goal.returns
 returns c =
     let roles : List Role = c.args.roles.now in
     let held : List Role = c.in-Some.book.roles in
-    let some : no_roles roles ≡ false = sym c.nothing_waits.ensures ∙ c.if-is_empty.false in
+    let some : no_roles roles ≡ false = sym c.is_empty.ensures ∙ c.if-is_empty.false in
     let scheme : outranks held ≡ above_for roles = ap outranks c.in-Some.ensures.1 ∙ sym (ap (λ (b : Bool). cond b greater (outranks roles)) some) in
     let count : 16 ≡ ranks_for roles = sym (ap (λ (b : Bool). cond {A = ℕ} b 3 16) some) in
-    let s = session_so c.args.numbers.now c.args.subscribers.now roles c.args.stations c.args.calls.now c.in-ok-answers-2.answers.items (outranks held) 16 scheme count c.in-Some.ensures.0 c.requires c.in-ok-answers-2.ensures.exact c.in-ok-answers-2.ensures.guarantee in
+    let s = session_so c.args.numbers.now c.args.subscribers.now roles c.args.stations c.args.calls.now c.in_ok-answers-2.answers.items (outranks held) 16 scheme count c.in-Some.ensures.0 c.requires c.in_ok-answers-2.ensures.exact c.in_ok-answers-2.ensures.guarantee in
     record { exact = (s.0, s.1); guarantee = s.2 }

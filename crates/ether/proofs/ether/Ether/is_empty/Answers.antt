@@ -16,4 +16,4 @@ returns c =
     let turn : c.args.self.now.oldest ≤ length slots = search rules in
     let same = length_rotated c.args.self.now.oldest slots turn in
     let long : vec_len c.args.self.now.slots ≡ length (slots_of c.args.self.now) = omega arith in
-    c.nothing_waits.ensures ∙ ap (λ n. eqb n 0) long ∙ none_left (slots_of c.args.self.now)
+    c.is_empty.ensures ∙ ap (λ n. eqb n 0) long ∙ none_left (slots_of c.args.self.now)
