@@ -8,12 +8,12 @@ use Rattle.playlist.proofs.checking.first_fault.Goals as goal
 pub loop-next-smaller : goal.loop-next-smaller
 loop-next-smaller c =
     let s = stand_of c.loop-next.reader in
-    one_less s (stand_of c.next.new.self) (meant c.in-Some.-line) (gave_line c.in-Ok.next c.in-Some.-line s c.in-Some.is c.in-Ok.ensures.gives) c.next.ensures.moves
+    one_less s (stand_of c.next.new.self) (meant c.in-Some._line) (gave_line c.in-Ok.next c.in-Some._line s c.in-Some.is c.in-Ok.ensures.gives) c.next.ensures.moves
 
 pub loop-next-preserved : goal.loop-next-preserved
 loop-next-preserved c =
     let s = stand_of c.loop-next.reader in
-    fault_goes_on s (stand_of c.next.new.self) (meant c.in-Some.-line) (gave_line c.in-Ok.next c.in-Some.-line s c.in-Some.is c.in-Ok.ensures.gives) c.next.ensures.moves
+    fault_goes_on s (stand_of c.next.new.self) (meant c.in-Some._line) (gave_line c.in-Ok.next c.in-Some._line s c.in-Some.is c.in-Ok.ensures.gives) c.next.ensures.moves
     ∙ c.loop-next.invariant
 
 pub returns-in-None : goal.returns-in-None

@@ -13,7 +13,7 @@ loop-next-smaller c =
 pub loop-next-preserved : goal.loop-next-preserved
 loop-next-preserved c =
     let s = stand_of c.loop-next.reader in
-    records_go_on s (stand_of c.next.new.self) (meant c.in-Some.line) (gave_line c.in-Ok.next c.in-Some.line s c.in-Some.is c.in-Ok.ensures.gives) c.next.ensures.moves (held c.loop-next.playlist) (held c.put.new.playlist) c.in_ok-put.ensures
+    records_go_on s (stand_of c.next.new.self) (meant c.in-Some.line) (gave_line c.in-Ok.next c.in-Some.line s c.in-Some.is c.in-Ok.ensures.gives) c.next.ensures.moves (held c.loop-next.playlist) (held c.put.new.playlist) c.in_ok-put-in-Some.ensures
     ∙ c.loop-next.invariant
 
 pub returns-in-None : goal.returns-in-None
