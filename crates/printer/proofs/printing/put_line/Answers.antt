@@ -18,8 +18,8 @@ returns-then-next-answers c =
     let z = vec_items c.put_answer.new.out in
     let there = c.if-next-answers.true in
     let is = ap meant c.in-Call.is in
-    let answer = c.in_ok-put_answer.ensures ∙ ap (λ (a : Answer). y ++ answer_row (next + 1) a) (get_or_default answers next _ opened there) in (
-      onto x y z (opening_before next) (answer_row (next + 1) (get_or answers next opened)) c.in_ok-put_opening_before.ensures answer
+    let answer = c.in_ok-put_answer-in-Call.ensures ∙ ap (λ (a : Answer). y ++ answer_row (next + 1) a) (get_or_default answers next _ opened there) in (
+      onto x y z (opening_before next) (answer_row (next + 1) (get_or answers next opened)) c.in_ok-put_opening_before-in-Call.ensures answer
           ∙ ap (λ (r : List ℕ). x ++ r) (sym (call_rows answers next (meant c.args.line) c.in-Call.field-0 is there)),
       call_next answers next (meant c.args.line) c.in-Call.field-0 is there,
     )
