@@ -31,7 +31,14 @@ APART = {
     "opening-refusal": "refusal_at_opening",
     "subscribers-good": "good_subscribers",
 }
-GOAL = re.compile(r"^\s*(?:pub\s+)?(" + NAME + r")\s*:\s*goal\.", re.M)
+# Variables, and names that a `use` line gives.
+LOCAL = """
+anchor-outcomes mobile-outcomes station-outcomes mobile-heard mobile-timed station-timed by-ether by-priority by-queue own-rank
+held-cause reference-is lost-is kept-is n-old n-new now-kept m-old m-new is-n c-there sound-two on-n on-m not-granted no-slots
+ms-is listener-is links-on is-28 identity-is grant-is good-rest free-is count-is bare-all time-is range-c range-b not-n
+next-length least-ranks
+""".split()
+GOAL = re.compile(r"^\s*(?:abbrev\s+)?(?:pub\s+)?(" + NAME + r")\s*:\s*goal\.", re.M)
 USE = re.compile(r"^\s*(?:pub\s+)?(?:ghost\s+)?use\s+([\w.']+?)\.\{([^}]*)\}", re.M)
 
 
@@ -65,6 +72,8 @@ def main():
                 for n in words.split():
                     if "-" in n and n not in here:
                         declared[n].add(p)
+    for n in LOCAL:
+        declared[n].add("here")
     turned = {}
     for n in sorted(declared):
         if n in goals:

@@ -74,9 +74,9 @@ bare_line : (book : List Entry) (last : ℕ) (said : List Post) (m : Message) �
 bare_line book last said m all h = bare_wire_line book last m.address m.kind m (bare_said said (Wire m) all h)
 
 bare_good : (acted : AnchorActed) → all_wire acted.said → all_bare acted.said ≡ true → SaidGood acted
-bare_good acted all bare-all =
+bare_good acted all bare_all =
     record {
-      wire = λ m h. bare_line acted.book acted.last acted.said m bare-all h;
+      wire = λ m h. bare_line acted.book acted.last acted.said m bare_all h;
       no_air = wire_only acted.said all;
     }
 

@@ -49,14 +49,14 @@ module _ (above : ℕ → ℕ → Bool) (f : Frame) (t : Tables) (b : ℕ) (ther
 
   -- station c took a step
   station_clocked : (time c : ℕ) (row : Station) → is_there c f.station_count ≡ true → Clocked time period (station_number t c) row → Clocked time period (station_number t b) (get_or (set t.stations (c - 1) row) (b - 1) no_station)
-  station_clocked time c row c-there step = at (cases_eq b c)
+  station_clocked time c row c_there step = at (cases_eq b c)
     where
       at : (b ≡ c) ⊎ (b ≡ c → ⊥) → Clocked time period (station_number t b) (get_or (set t.stations (c - 1) row) (b - 1) no_station)
       at (inl same) =
-          subst (λ (n : ℕ). Clocked time period (station_number t n) (get_or (set t.stations (c - 1) row) (n - 1) no_station)) (sym same) (subst (Clocked time period (station_number t c)) (sym (row_set f t c row c-there good)) step)
+          subst (λ (n : ℕ). Clocked time period (station_number t n) (get_or (set t.stations (c - 1) row) (n - 1) no_station)) (sym same) (subst (Clocked time period (station_number t c)) (sym (row_set f t c row c_there good)) step)
       at (inr other) =
-          let range-b = in_range b f.station_count there in
-          let range-c = in_range c f.station_count c-there in
+          let range_b = in_range b f.station_count there in
+          let range_c = in_range c f.station_count c_there in
           subst (Clocked time period (station_number t b)) (sym (get_or-set_other t.stations (c - 1) (b - 1) row no_station (λ e. other (omega arith)))) (row_stays time period (station_number t b))
 
   alone_clocked : (call : Call) → party_there f call ≡ true → Clocked (time_of call) period (station_number t b) (station_number (effect_alone above f call t).tables b)

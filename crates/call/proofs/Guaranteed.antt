@@ -111,18 +111,18 @@ module _
       let size = s.mobile_rows in
       record {
         grants = book_promise above ranks some bounded irreflexive transitive t.book t.last s.book;
-        one_talker = λ m n grant is_m is-n on-m on-n.
+        one_talker = λ m n grant is_m is_n on_m on_n.
             let one : IsMobile f m = (is_m.0, (let l = is_m.1 in omega arith)) in
-            let two : IsMobile f n = (is-n.0, (let l = is-n.1 in omega arith)) in
-            s.different m n one two (sym (talked_named _ _ _ holder _ _ (account m (history trace)).talks (s.mobiles m one).talked grant on-m) ∙ talked_named _ _ _ holder _ _ (account n (history trace)).talks (s.mobiles n two).talked grant on-n);
+            let two : IsMobile f n = (is_n.0, (let l = is_n.1 in omega arith)) in
+            s.different m n one two (sym (talked_named _ _ _ holder _ _ (account m (history trace)).talks (s.mobiles m one).talked grant on_m) ∙ talked_named _ _ _ holder _ _ (account n (history trace)).talks (s.mobiles n two).talked grant on_n);
         each = λ m is_m.
             let one : IsMobile f m = (is_m.0, (let l = is_m.1 in omega arith)) in
             promised t.book t.last (station_number t (mobile_at t m).station) holder m (mobile_at t m) (history trace) (s.mobiles m one) (k.always m one);
       }
 
   pub over_every_run : (given : Given) (air : A) (wire : W) (answer : Answer) (first end : World A W) (trace : List Moment) → Opening air_list wire_list given air wire answer f first → (told answer.outcome).number ≡ 28 → Run air_says wire_says air_hears wire_hears above ranks f first trace end → Kept above ranks f trace end
-  over_every_run given air wire answer first end trace opening is-28 run =
-      let o = opened_well air_list wire_list given air wire answer f first opening is-28 in
+  over_every_run given air wire answer first end trace opening is_28 run =
+      let o = opened_well air_list wire_list given air wire answer f first opening is_28 in
       let start = opened_kept air_list wire_list air_says wire_says air_hears wire_hears air_laws wire_laws above ranks f o in
       record {
         guarantee = guaranteed trace end (run_kept air_list wire_list air_says wire_says air_hears wire_hears air_laws wire_laws above ranks f start run);

@@ -64,11 +64,11 @@ module _ (book : List Entry) (last : ℕ) (station : Station) (holder : ℕ → 
 
   -- an attempt is the next after those that were
   attempting : (attempt : Try) (before : ℕ) (reference rank time : ℕ) (timers : MobileTimers) (row : Mobile) (a : Account) → attempt_number attempt ≡ suc before → attempt_number attempt ≤ 3 → a.attempts ≡ down_from before → a.reference ≡ reference → a.rank ≡ rank → Requests a → After a (attempts attempt reference rank time timers row)
-  attempting attempt before reference rank time timers row a number few were reference-is rank_is r =
+  attempting attempt before reference rank time timers row a number few were reference_is rank_is r =
       let next : cond a.request_on (attempt_number attempt ∷ a.attempts) a.attempts ≡ down_from (attempt_number attempt) = cond-true a.request_on _ _ r.on ∙ ap (λ (l : List ℕ). attempt_number attempt ∷ l) were ∙ ap (λ (n : ℕ). n ∷ down_from before) number ∙ ap down_from (sym number) in
       record {
         line = record {
-          stated = (r.on, r.silent, next, reference-is, rank_is);
+          stated = (r.on, r.silent, next, reference_is, rank_is);
           ordered = record { balance = r.ordered.balance; tries = attempt_number attempt; few = few; numbered = next };
           talked = r.talked;
         };
@@ -162,7 +162,7 @@ module _ (book : List Entry) (last : ℕ) (station : Station) (holder : ℕ → 
 
   -- GRANT of its own reference and rank
   linking : (m : Message) (attempt : Try) (reference rank deadline time : ℕ) (timers : MobileTimers) (row : Mobile) (a : Account) → m.reference ≡ reference → m.rank ≡ rank → GrantedTo book last m.grant b m.reference m.rank → m.grant ≤ station.top → Line (Asks attempt reference rank deadline) a → After a (links m.grant time timers row)
-  linking m attempt reference rank deadline time timers row a reference-is rank_is granted under line =
+  linking m attempt reference rank deadline time timers row a reference_is rank_is granted under line =
       record {
         line = record {
           stated = (
@@ -172,7 +172,7 @@ module _ (book : List Entry) (last : ℕ) (station : Station) (holder : ℕ → 
               least = granted.least;
               most = granted.most;
               for_station = granted.for_station;
-              for_reference = granted.for_reference ∙ reference-is ∙ sym line.stated.3;
+              for_reference = granted.for_reference ∙ reference_is ∙ sym line.stated.3;
               for_rank = granted.for_rank ∙ rank_is ∙ sym line.stated.4;
             },
             under,
@@ -195,9 +195,9 @@ module _ (book : List Entry) (last : ℕ) (station : Station) (holder : ℕ → 
 
   -- UA of its grant with its own identity
   talking : (m : Message) (grant deadline : ℕ) (row : Mobile) (a : Account) → m.grant ≡ grant → m.identity ≡ identity → Named book last station holder b m.grant m.identity → Line (Links grant deadline) a → After a (talk_begun grant row)
-  talking m grant deadline row a grant-is identity-is named line =
+  talking m grant deadline row a grant_is identity_is named line =
       let r = linking_on grant deadline a line in
-      let there : Named book last station holder b grant identity = subst (λ (i : ℕ). Named book last station holder b grant i) identity-is (subst (λ (g : ℕ). Named book last station holder b g m.identity) grant-is named) in
+      let there : Named book last station holder b grant identity = subst (λ (i : ℕ). Named book last station holder b grant i) identity_is (subst (λ (g : ℕ). Named book last station holder b g m.identity) grant_is named) in
       record {
         line = record {
           stated = (refl, refl, line.stated.2);
@@ -246,8 +246,8 @@ module _ (book : List Entry) (last : ℕ) (station : Station) (holder : ℕ → 
 
   -- the timer
   again_good : (next : Try) (before : ℕ) (above : ℕ → ℕ → Bool) (reference rank time : ℕ) (timers : MobileTimers) (row : Mobile) (a : Account) → attempt_number next ≡ suc before → attempt_number next ≤ 3 → a.attempts ≡ down_from before → a.reference ≡ reference → a.rank ≡ rank → Requests a → After a (again next above reference rank time timers row)
-  again_good next before above reference rank time timers row a number few were reference-is rank_is r =
-      cond_both (open_to above rank time row.uplink) _ _ (After a) (λ _. attempting next before reference rank time timers row a number few were reference-is rank_is r) (λ _. rejecting _ row a r)
+  again_good next before above reference rank time timers row a number few were reference_is rank_is r =
+      cond_both (open_to above rank time row.uplink) _ _ (After a) (λ _. attempting next before reference rank time timers row a number few were reference_is rank_is r) (λ _. rejecting _ row a r)
 
   unanswered_good : (attempt : Try) (above : ℕ → ℕ → Bool) (reference rank deadline time : ℕ) (timers : MobileTimers) (row : Mobile) (a : Account) → Line (Asks attempt reference rank deadline) a → After a (unanswered attempt above reference rank time timers row)
   unanswered_good First above reference rank deadline time timers row a line =

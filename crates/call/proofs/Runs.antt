@@ -169,12 +169,12 @@ module _
 
     run_more : (trace : List Moment) (before after : World A W) (x : Exchange) → RunKept trace before → Did air_says wire_says air_hears wire_hears above ranks f before x.call x.answer after → RunKept (trace ++ record { exchange = x; before = before.tables; after = after.tables } ∷ []) after
     run_more trace before after x k did =
-        let now-kept = did_keeps (λ n. account n (history trace)) before after x k.invariant did in
+        let now_kept = did_keeps (λ n. account n (history trace)) before after x k.invariant did in
         let grown : history (trace ++ record { exchange = x; before = before.tables; after = after.tables } ∷ []) ≡ history trace ++ x ∷ [] = map_push exchange_in trace _ in
         let more : (n : ℕ) → account n (history trace ++ x ∷ []) ≡ noted n (account n (history trace)) x = λ n. fold_push (noted n) blank (history trace) x in
         record {
-          invariant = again (λ n. noted n (account n (history trace)) x) _ after (λ n. ap (account n) grown ∙ more n) now-kept;
-          always = λ n is. subst (AlwaysInOrder n blank) (sym grown) (always_more n blank (history trace) x (k.always n is) (now-kept.sound.mobiles n is).ordered);
+          invariant = again (λ n. noted n (account n (history trace)) x) _ after (λ n. ap (account n) grown ∙ more n) now_kept;
+          always = λ n is. subst (AlwaysInOrder n blank) (sym grown) (always_more n blank (history trace) x (k.always n is) (now_kept.sound.mobiles n is).ordered);
         }
 
     pub run_kept : {first w : World A W} {trace : List Moment} → RunKept [] first → Run air_says wire_says air_hears wire_hears above ranks f first trace w → RunKept trace w

@@ -94,7 +94,7 @@ module _
   few zero later least between most one = absurd (not-suc-le-zero least)
   few (suc k) later least between most one =
       let size = ranks_length book k (later - suc k) in
-      let least-ranks = (spell k later between most one).few in
+      let least_ranks = (spell k later between most one).few in
       omega arith
 
   ended : (grant : ℕ) → 1 ≤ grant → grant < last → stands (grant_at book grant).end ≡ false

@@ -78,7 +78,7 @@ module _ (book : List Entry) (last : ℕ) (holder : ℕ → ℕ) (b : ℕ) where
 
   -- a new phase that is not Granted and asks for no line
   new_phase : (row after : Station) (said : List Post) → row.top ≤ after.top → is_granted after.phase ≡ false → Phased after → all_bare said ≡ true → StationGood row (acting after said)
-  new_phase row after said more not-granted p s = bare_step row (acting after said) more (λ grant l settled is. not-granted) p s
+  new_phase row after said more not_granted p s = bare_step row (acting after said) more (λ grant l settled is. not_granted) p s
 
   module _ (time link period : ℕ) (m : Message) (row : Station) where
     abbrev granting : List Post
@@ -223,7 +223,7 @@ module _ (book : List Entry) (last : ℕ) (holder : ℕ → ℕ) (b : ℕ) where
   closing_good (Seized rank) cause top pending clock p = ignored_good _ p
   closing_good (Granted rank deadline) cause top pending clock p = ignored_good _ p
   closing_good (Held rank identity) cause top pending clock p = new_phase _ _ _ (omega arith) refl tt refl
-  closing_good (Closing rank held-cause) cause top pending clock p = ignored_good _ p
+  closing_good (Closing rank held_cause) cause top pending clock p = ignored_good _ p
 
   module _ (above : ℕ → ℕ → Bool) (time link : ℕ) (m : Message) (row : Station) (p : Phased row) where
     air_good : (kind : Kind) → StationGood row (by_air_kind kind above b time link m row)

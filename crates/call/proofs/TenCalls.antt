@@ -91,8 +91,8 @@ module _ (f : Frame) (above : ℕ → ℕ → Bool) (holder : ℕ → ℕ) (acco
   asked_good : (state : State) (m reference rank time : ℕ) (row : Mobile) (a : Account) → listens_in state ≡ true → MobileLine t.book t.last (station_number t row.station) holder row.station row.identity state a → Good t.book t.last (station_number t row.station) holder row.station row.identity (ask_answered reference rank (mobile_outcome (asked_in state above reference rank time (mobile_timers above f) row).outcome) a) (asked_in state above reference rank time (mobile_timers above f) row)
   asked_good Listens m reference rank time row a listens line =
       asks_good t.book t.last (station_number t row.station) holder row.station row.identity above reference rank time (mobile_timers above f) row a line
-  asked_good (Waits own own-rank deadline) m reference rank time row a listens line = absurd (false≢true listens)
-  asked_good (Asks attempt own own-rank deadline) m reference rank time row a listens line = absurd (false≢true listens)
+  asked_good (Waits own own_rank deadline) m reference rank time row a listens line = absurd (false≢true listens)
+  asked_good (Asks attempt own own_rank deadline) m reference rank time row a listens line = absurd (false≢true listens)
   asked_good (Links grant deadline) m reference rank time row a listens line = absurd (false≢true listens)
   asked_good (Talks grant) m reference rank time row a listens line = absurd (false≢true listens)
 

@@ -5,16 +5,16 @@ use Rattle.messages.specs.Addresses.{anchor_at, station_at, mobile_as, cell_at}
 use Rattle.messages.specs.declared.message.Message.{Message}
 use Rattle.messages.specs.declared.outbox.Post.{Post}
 use Rattle.messages.specs.declared.outbox.Post.TheVariants.{Air, Wire}
-use Rattle.mobile.specs.Steps.{MobileActed, asked, finished, heard as mobile-heard, timed as mobile-timed}
+use Rattle.mobile.specs.Steps.{MobileActed, asked, finished, heard as mobile_heard, timed as mobile_timed}
 use Rattle.mobile.specs.declared.row.MobileOutcome.{MobileOutcome}
-use Rattle.mobile.specs.declared.row.MobileOutcome.TheVariants as mobile-outcomes
+use Rattle.mobile.specs.declared.row.MobileOutcome.TheVariants as mobile_outcomes
 use Rattle.mobile.specs.declared.row.MobileTimers.{MobileTimers}
-use Rattle.station.specs.Stations.{StationActed, wire_heard, air_heard, radio_lost, timed as station-timed}
+use Rattle.station.specs.Stations.{StationActed, wire_heard, air_heard, radio_lost, timed as station_timed}
 use Rattle.station.specs.declared.row.StationOutcome.{StationOutcome}
-use Rattle.station.specs.declared.row.StationOutcome.TheVariants as station-outcomes
+use Rattle.station.specs.declared.row.StationOutcome.TheVariants as station_outcomes
 use Rattle.anchor.specs.Anchors.{AnchorActed, anchor_heard, released}
 use Rattle.anchor.specs.declared.step.AnchorOutcome.{AnchorOutcome}
-use Rattle.anchor.specs.declared.step.AnchorOutcome.TheVariants as anchor-outcomes
+use Rattle.anchor.specs.declared.step.AnchorOutcome.TheVariants as anchor_outcomes
 use Rattle.call.specs.World.{Frame, Tables, World, mobile_at, station_number, refusal_of}
 use Rattle.call.specs.declared.answer.Answer.{Answer}
 use Rattle.call.specs.declared.answer.Outcome.{Outcome}
@@ -39,14 +39,14 @@ idle time t =
     }
 
 abbrev pub mobile_outcome : MobileOutcome → Outcome
-mobile_outcome mobile-outcomes.Idle = Idle
-mobile_outcome mobile-outcomes.Ignored = Ignored
-mobile_outcome mobile-outcomes.Applied = Applied
-mobile_outcome mobile-outcomes.Waits = Waits
-mobile_outcome (mobile-outcomes.Attempt attempt) = Attempt attempt
-mobile_outcome (mobile-outcomes.TalkBegun grant) = TalkBegun grant
-mobile_outcome (mobile-outcomes.Rejected why) = Rejected why
-mobile_outcome (mobile-outcomes.TalkEnded grant) = TalkEnded grant
+mobile_outcome mobile_outcomes.Idle = Idle
+mobile_outcome mobile_outcomes.Ignored = Ignored
+mobile_outcome mobile_outcomes.Applied = Applied
+mobile_outcome mobile_outcomes.Waits = Waits
+mobile_outcome (mobile_outcomes.Attempt attempt) = Attempt attempt
+mobile_outcome (mobile_outcomes.TalkBegun grant) = TalkBegun grant
+mobile_outcome (mobile_outcomes.Rejected why) = Rejected why
+mobile_outcome (mobile_outcomes.TalkEnded grant) = TalkEnded grant
 
 -- mobile m took a step
 abbrev pub by_mobile : (time m : ℕ) → Tables → MobileActed → Effect
@@ -59,9 +59,9 @@ by_mobile time m t acted =
 
 -- the value is the station's top after the step
 abbrev pub station_outcome : StationOutcome → (top : ℕ) → Outcome
-station_outcome station-outcomes.Idle top = Idle
-station_outcome station-outcomes.Ignored top = Ignored
-station_outcome station-outcomes.Acted top = Acted top
+station_outcome station_outcomes.Idle top = Idle
+station_outcome station_outcomes.Ignored top = Ignored
+station_outcome station_outcomes.Acted top = Acted top
 
 abbrev pub by_station : (time b : ℕ) → Tables → StationActed → Effect
 by_station time b t acted =
@@ -73,9 +73,9 @@ by_station time b t acted =
 
 -- the value is the last number after the step
 abbrev pub anchor_outcome : AnchorOutcome → (last : ℕ) → Outcome
-anchor_outcome anchor-outcomes.Ignored last = Ignored
-anchor_outcome anchor-outcomes.Acted last = Acted last
-anchor_outcome anchor-outcomes.Full last = BookFull
+anchor_outcome anchor_outcomes.Ignored last = Ignored
+anchor_outcome anchor_outcomes.Acted last = Acted last
+anchor_outcome anchor_outcomes.Full last = BookFull
 
 abbrev pub by_anchor : (time : ℕ) → Tables → AnchorActed → Effect
 by_anchor time t acted =
@@ -112,7 +112,7 @@ module _ (above : ℕ → ℕ → Bool) (f : Frame) where
   abbrev pub effect_heard : Call → Tables → Message → Effect
   effect_heard (Ask time mobile reference rank) t m = idle time t
   effect_heard (Finish time mobile) t m = idle time t
-  effect_heard (MobileHears time mobile) t m = by_mobile time mobile t (mobile-heard above time mobile_timers m (mobile_at t mobile))
+  effect_heard (MobileHears time mobile) t m = by_mobile time mobile t (mobile_heard above time mobile_timers m (mobile_at t mobile))
   effect_heard (MobileTimer time mobile) t m = idle time t
   effect_heard (StationHearsAir time station) t m =
       by_station time station t (air_heard above station time f.settings.link.ms m (station_number t station))
@@ -128,11 +128,11 @@ module _ (above : ℕ → ℕ → Bool) (f : Frame) where
       by_mobile time mobile t (asked above reference rank time mobile_timers (mobile_at t mobile))
   effect_alone (Finish time mobile) t = by_mobile time mobile t (finished (mobile_at t mobile))
   effect_alone (MobileHears time mobile) t = idle time t
-  effect_alone (MobileTimer time mobile) t = by_mobile time mobile t (mobile-timed above time mobile_timers (mobile_at t mobile))
+  effect_alone (MobileTimer time mobile) t = by_mobile time mobile t (mobile_timed above time mobile_timers (mobile_at t mobile))
   effect_alone (StationHearsAir time station) t = idle time t
   effect_alone (StationHearsWire time station) t = idle time t
   effect_alone (StationTimer time station) t =
-      by_station time station t (station-timed station time f.settings.period.ms (station_number t station))
+      by_station time station t (station_timed station time f.settings.period.ms (station_number t station))
   effect_alone (RadioLoss time station) t = by_station time station t (radio_lost station (station_number t station))
   effect_alone (AnchorHears time) t = idle time t
   effect_alone (Release time) t = by_anchor time t (released f.station_count t.book t.last)

@@ -45,10 +45,10 @@ module _
   -- the same in a loop over the posts, of which the first i are said
 
   pub kept_next : (posts : List Post) (i : ℕ) (d : Post) {a a₁ a₂ : A} {w w₁ w₂ : W} {kept lost kept' lost' : ℕ} → i < length posts → Sends (take i posts) a w kept lost a₁ w₁ → Says (get_or posts i d) a₁ w₁ true a₂ w₂ → kept' ≡ kept + 1 → lost' ≡ lost → Sends (take (i + 1) posts) a w kept' lost' a₂ w₂
-  kept_next posts i d within before s kept-is lost-is = rw (take_more posts i d within, kept-is, lost-is, add-one) (kept_more (get_or posts i d) before s)
+  kept_next posts i d within before s kept_is lost_is = rw (take_more posts i d within, kept_is, lost_is, add-one) (kept_more (get_or posts i d) before s)
 
   pub lost_next : (posts : List Post) (i : ℕ) (d : Post) {a a₁ a₂ : A} {w w₁ w₂ : W} {kept lost kept' lost' : ℕ} → i < length posts → Sends (take i posts) a w kept lost a₁ w₁ → Says (get_or posts i d) a₁ w₁ false a₂ w₂ → kept' ≡ kept → lost' ≡ lost + 1 → Sends (take (i + 1) posts) a w kept' lost' a₂ w₂
-  lost_next posts i d within before s kept-is lost-is = rw (take_more posts i d within, kept-is, lost-is, add-one) (lost_more (get_or posts i d) before s)
+  lost_next posts i d within before s kept_is lost_is = rw (take_more posts i d within, kept_is, lost_is, add-one) (lost_more (get_or posts i d) before s)
 
   pub all_sent : {items posts : List Post} {i : ℕ} {a a' : A} {w w' : W} {kept lost : ℕ} → length items ≤ i → items ≡ posts → Sends (take i items) a w kept lost a' w' → Sends posts a w kept lost a' w'
   all_sent {items} {i = i} {a} {a'} {w} {w'} {kept} {lost} whole is s = subst (λ said. Sends said a w kept lost a' w') (take_all i items whole ∙ is) s

@@ -17,11 +17,11 @@ module _
   heard_nowhere {place} {a} {w} is = subst (λ p. Hears p a w None a w) (sym is) silent
 
   pub heard_on_air : {place : Listening} {address listener address' listener' : ℕ} {a a' : A} {w : W} {o : Option Message} → place ≡ on_air address listener → address' ≡ address → listener' ≡ listener → air_hears a address' listener' o a' → Hears place a w o a' w
-  heard_on_air {place} {address' = address'} {listener'} {a} {a'} {w} {o} is address_is listener-is h =
+  heard_on_air {place} {address' = address'} {listener'} {a} {a'} {w} {o} is address_is listener_is h =
       let here : place ≡ on_air address' listener' = cc in
       subst (λ p. Hears p a w o a' w) (sym here) (by_air h)
 
   pub heard_on_wire : {place : Listening} {address listener address' listener' : ℕ} {a : A} {w w' : W} {o : Option Message} → place ≡ on_wire address listener → address' ≡ address → listener' ≡ listener → wire_hears w address' listener' o w' → Hears place a w o a w'
-  heard_on_wire {place} {address' = address'} {listener'} {a} {w} {w'} {o} is address_is listener-is h =
+  heard_on_wire {place} {address' = address'} {listener'} {a} {w} {w'} {o} is address_is listener_is h =
       let here : place ≡ on_wire address' listener' = cc in
       subst (λ p. Hears p a w o a w') (sym here) (by_wire h)

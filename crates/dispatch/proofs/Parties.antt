@@ -26,7 +26,7 @@ use Rattle.dispatch.specs.declared.step.Step.{Step}
 
 -- the tables of a record that has accepted a time
 pub at_time : (c : GroupCall) {time : Time} {last ms : ℕ} (mobiles : List Mobile) (stations : List Station) (book : List Entry) → c.last ≡ last → c.time ≡ time → time.ms ≡ ms → tables_of c mobiles stations book ≡ record { last = last; time = ms; mobiles = mobiles; stations = stations; book = book }
-at_time c mobiles stations book last_is time-is ms-is = cc
+at_time c mobiles stations book last_is time_is ms_is = cc
 
 -- the timers of a mobile are those of the settings
 abbrev TimersOf : Settings → MobileTimers → Type 0
@@ -42,7 +42,7 @@ timers_are above f settings timers is are i =
 
 -- a mobile's step at the time of the call, with the timers of the settings
 pub mobile_stepped : (acts : ℕ → MobileTimers → MobileActed) (above : ℕ → ℕ → Bool) (f : Frame) (m : ℕ) (t : Tables) {time ms : ℕ} {after : Tables} {settings : Settings} {timers : MobileTimers} {row : Mobile} {step : MobileStep} {r : Step} → ms ≡ time → settings ≡ f.settings → TimersOf settings timers → MobileDid (acts ms timers) row step → (posts r.outbox ≡ posts step.outbox) × (r.outcome ≡ mobile_outcome step.outcome) → after ≡ record { last = t.last; time = time; mobiles = set t.mobiles (m - 1) row; stations = t.stations; book = t.book } → Stepped (by_mobile time m t (acts time (mobile_timers above f))) after r
-mobile_stepped acts above f m t {settings = settings} {timers} ms-is settings_are are did told left =
+mobile_stepped acts above f m t {settings = settings} {timers} ms_is settings_are are did told left =
     let timed = timers_are above f settings timers settings_are are in
     record { tables = cc; said = cc; outcome = cc }
 
@@ -75,7 +75,7 @@ number_taken above f t m number good within is =
 
 -- a step of the anchor, whose number the record takes
 pub anchor_stepped : (above : ℕ → ℕ → Bool) (f : Frame) (t : Tables) (m : Message) (count last : ℕ) {time : ℕ} {book : List Entry} {step : AnchorStep} {after : Tables} {r : Step} → tables_good f t ≡ true → t.last ≤ f.places → count ≡ f.station_count → last ≡ t.last → StepIs (anchor_heard above count t.book last m) book step → (posts r.outbox ≡ posts step.outbox) × (r.outcome ≡ anchor_outcome step.outcome step.last) → after ≡ record { last = cond (leb step.last f.places) step.last t.last; time = time; mobiles = t.mobiles; stations = t.stations; book = book } → Stepped (by_anchor time t (anchor_heard above f.station_count t.book t.last m)) after r
-anchor_stepped above f t m count last {step = step} good within count-is last_is did told left =
+anchor_stepped above f t m count last {step = step} good within count_is last_is did told left =
     let acted : anchor_heard above count t.book last m ≡ anchor_heard above f.station_count t.book t.last m =
-    ap (λ (n : ℕ). anchor_heard above n t.book last m) count-is ∙ ap (λ (n : ℕ). anchor_heard above f.station_count t.book n m) last_is in
+    ap (λ (n : ℕ). anchor_heard above n t.book last m) count_is ∙ ap (λ (n : ℕ). anchor_heard above f.station_count t.book n m) last_is in
     anchor_did t _ _ _ acted did told left (number_taken above f t m step.last good within (did.last_is ∙ ap (λ (a : AnchorActed). a.last) acted))

@@ -80,7 +80,7 @@ module _
         trace = p.trace ++ moment ∷ [];
         run = called {before = world c₁ t₁ air₁ wire₁} {after = world c₂ t₂ air₂ wire₂} x p.run (subst (λ (f : Frame). Did air_says wire_says air_hears wire_hears above ranks f (world c₁ t₁ air₁ wire₁) (get_or calls i d) answer (world c₂ t₂ air₂ wire₂)) p.frame made.did);
         answered = map_push exchange_in p.trace moment ∙ ap (λ (xs : List Exchange). xs ++ x ∷ []) p.answered ∙ sym (exchanges_more calls now_is i d answer l m);
-        enough = let next-length = length-take-le (i + 1) calls (omega arith) in let same = p.places in omega arith;
+        enough = let next_length = length-take-le (i + 1) calls (omega arith) in let same = p.places in omega arith;
         places = length-set now_is i answer ∙ p.places;
         past = past_more calls now_is before i answer l p.past;
         same = both_same p.same made.same;

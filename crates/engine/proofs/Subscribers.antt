@@ -15,12 +15,12 @@ can_enter stations s = identity_in_limits s.identity && is_there s.station stati
 
 -- the next subscriber can enter or not, its identity is unused or not, and the others are left
 pub next : (stations : ℕ) (subscribers : List Subscriber) (i : ℕ) (d : Subscriber) (enters free : Bool) → i < length subscribers → enters ≡ can_enter stations (get_or subscribers i d) → free ≡ unused (get_or subscribers i d).identity (between (i + 1) (length subscribers) subscribers) → (enters && (free && good_subscribers stations (drop (i + 1) subscribers))) ≡ good_subscribers stations (drop i subscribers)
-next stations subscribers i d enters free within enters_is free-is =
+next stations subscribers i d enters free within enters_is free_is =
     let s = get_or subscribers i d in
     let rest = good_subscribers stations (drop (i + 1) subscribers) in
     let others = between_to_end subscribers (i + 1) (length subscribers) (omega arith) in
     ap (λ x. x && (free && rest)) enters_is
-    ∙ ap (λ x. can_enter stations s && (x && rest)) (free-is ∙ ap (unused s.identity) others)
+    ∙ ap (λ x. can_enter stations s && (x && rest)) (free_is ∙ ap (unused s.identity) others)
     ∙ sym (at_drop_more (good_subscribers stations) subscribers i d within)
 
 can_enter_writable : (stations : ℕ) (s : Subscriber) → stations ≤ 255 → can_enter stations s ≡ true → Writable s
@@ -37,5 +37,5 @@ all_writable stations (s ∷ others) few good zero d within =
     can_enter_writable stations s few (and_parts (can_enter stations s) rest good).0
 all_writable stations (s ∷ others) few good (suc k) d within =
     let rest = unused s.identity others && good_subscribers stations others in
-    let good-rest = (and_parts (can_enter stations s) rest good).1 in
-    all_writable stations others few (and_parts (unused s.identity others) (good_subscribers stations others) good-rest).1 k d (omega arith)
+    let good_rest = (and_parts (can_enter stations s) rest good).1 in
+    all_writable stations others few (and_parts (unused s.identity others) (good_subscribers stations others) good_rest).1 k d (omega arith)

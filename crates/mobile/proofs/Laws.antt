@@ -101,8 +101,8 @@ module _ (event : MobileEvent) (time : ℕ) (row : Mobile) (known : Uplink) (is 
 
   asking : (state : State) (above : ℕ → ℕ → Bool) (reference rank : ℕ) (timers : MobileTimers) → Holds (asked_in state above reference rank time timers after)
   asking Listens above reference rank timers = either (open_to above rank time known) _ _ (attempting First reference rank timers) (waiting reference rank timers)
-  asking (Waits own own-rank deadline) above reference rank timers = staying outcomes.Ignored refl
-  asking (Asks attempt own own-rank deadline) above reference rank timers = staying outcomes.Ignored refl
+  asking (Waits own own_rank deadline) above reference rank timers = staying outcomes.Ignored refl
+  asking (Asks attempt own own_rank deadline) above reference rank timers = staying outcomes.Ignored refl
   asking (Links grant deadline) above reference rank timers = staying outcomes.Ignored refl
   asking (Talks grant) above reference rank timers = staying outcomes.Ignored refl
 
@@ -131,9 +131,9 @@ module _ (event : MobileEvent) (time : ℕ) (row : Mobile) (known : Uplink) (is 
 
   at_grant : (state : State) (reference rank grant : ℕ) (timers : MobileTimers) → Holds (on_grant_in state reference rank grant time timers after)
   at_grant Listens reference rank grant timers = staying outcomes.Ignored refl
-  at_grant (Waits own own-rank deadline) reference rank grant timers = staying outcomes.Ignored refl
-  at_grant (Asks attempt own own-rank deadline) reference rank grant timers =
-      either (eqb reference own && eqb rank own-rank) _ _ (linking grant timers) (rejecting _)
+  at_grant (Waits own own_rank deadline) reference rank grant timers = staying outcomes.Ignored refl
+  at_grant (Asks attempt own own_rank deadline) reference rank grant timers =
+      either (eqb reference own && eqb rank own_rank) _ _ (linking grant timers) (rejecting _)
   at_grant (Links own deadline) reference rank grant timers = staying outcomes.Ignored refl
   at_grant (Talks own) reference rank grant timers = staying outcomes.Ignored refl
 
@@ -174,7 +174,7 @@ module _ (time : ℕ) (row : Mobile) (message : Message) (ua : message.kind ≡ 
   ignoring = staying (Hears message) time row row.uplink same outcomes.Ignored refl
 
   beginning : (own deadline : ℕ) → row.state ≡ Links own deadline → message.grant ≡ own → message.identity ≡ row.identity → Holds_ua (talk_begun own row)
-  beginning own deadline links-on granted named =
+  beginning own deadline links_on granted named =
       record {
         over = λ ends. absurd (false≢true ends);
         talks = λ grant h. let one : own ≡ grant = cc in inr (record {
@@ -184,7 +184,7 @@ module _ (time : ℕ) (row : Mobile) (message : Message) (ua : message.kind ≡ 
           own = named;
           granted = granted ∙ one;
           deadline = deadline;
-          linking = links-on ∙ ap (λ g. Links g deadline) one;
+          linking = links_on ∙ ap (λ g. Links g deadline) one;
           told = ap outcomes.TalkBegun one;
         });
         identity = refl;

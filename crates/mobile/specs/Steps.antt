@@ -79,8 +79,8 @@ starts above reference rank time timers row =
 
 abbrev pub asked_in : State → (above : ℕ → ℕ → Bool) (reference rank time : ℕ) → MobileTimers → Mobile → MobileActed
 asked_in Listens above reference rank time timers row = starts above reference rank time timers row
-asked_in (Waits own own-rank deadline) above reference rank time timers row = stays outcomes.Ignored row
-asked_in (Asks attempt own own-rank deadline) above reference rank time timers row = stays outcomes.Ignored row
+asked_in (Waits own own_rank deadline) above reference rank time timers row = stays outcomes.Ignored row
+asked_in (Asks attempt own own_rank deadline) above reference rank time timers row = stays outcomes.Ignored row
 asked_in (Links grant deadline) above reference rank time timers row = stays outcomes.Ignored row
 asked_in (Talks grant) above reference rank time timers row = stays outcomes.Ignored row
 
@@ -150,9 +150,9 @@ links grant time timers row =
 
 abbrev pub on_grant_in : State → (reference rank grant time : ℕ) → MobileTimers → Mobile → MobileActed
 on_grant_in Listens reference rank grant time timers row = stays outcomes.Ignored row
-on_grant_in (Waits own own-rank deadline) reference rank grant time timers row = stays outcomes.Ignored row
-on_grant_in (Asks attempt own own-rank deadline) reference rank grant time timers row =
-    cond (reference == own && rank == own-rank) (links grant time timers row) (rejected GrantedToOther row)
+on_grant_in (Waits own own_rank deadline) reference rank grant time timers row = stays outcomes.Ignored row
+on_grant_in (Asks attempt own own_rank deadline) reference rank grant time timers row =
+    cond (reference == own && rank == own_rank) (links grant time timers row) (rejected GrantedToOther row)
 on_grant_in (Links own deadline) reference rank grant time timers row = stays outcomes.Ignored row
 on_grant_in (Talks own) reference rank grant time timers row = stays outcomes.Ignored row
 

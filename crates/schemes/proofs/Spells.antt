@@ -21,7 +21,7 @@ record Without (n : ℕ) (xs : List ℕ) : Type 1 where
 smaller : (n : ℕ) (xs : List ℕ) → All (λ y. y < suc n) xs → All (λ y. y ≡ n → ⊥) xs → All (λ y. y < n) xs
 smaller n [] h ne = tt
 smaller n (x ∷ xs) h ne =
-    (⊎_elim (λ e. absurd (ne.0 e)) (λ d. let not-n : x ≡ n → ⊥ = d in let low = h.0 in omega arith) (cases_eq x n), smaller n xs h.1 ne.1)
+    (⊎_elim (λ e. absurd (ne.0 e)) (λ d. let not_n : x ≡ n → ⊥ = d in let low = h.0 in omega arith) (cases_eq x n), smaller n xs h.1 ne.1)
 
 without : (n : ℕ) (xs : List ℕ) → Distinct xs → All (λ y. y < suc n) xs → Without n xs
 without n [] d h = record { rest = []; keeps = λ P a. tt; apart = tt; below = tt; shorter = zero-le }

@@ -5,10 +5,10 @@ use Rattle.std.proofs.lemmas.List.{map_push}
 use Rattle.messages.specs.declared.message.Message.{Message}
 use Rattle.messages.specs.declared.outbox.Post.{Post}
 use Rattle.carriers.specs.Queues.{has_room}
-use Rattle.carriers.specs.contracts.queue.lane.QueueCarrier.TheImpl as by-queue
+use Rattle.carriers.specs.contracts.queue.lane.QueueCarrier.TheImpl as by_queue
 use Rattle.carriers.specs.declared.queue.Queue.{Queue}
 use Rattle.ether.specs.Ethers.{slots_of}
-use Rattle.ether.specs.contracts.ether.listeners.EtherCarrier.TheImpl as by-ether
+use Rattle.ether.specs.contracts.ether.listeners.EtherCarrier.TheImpl as by_ether
 use Rattle.ether.specs.declared.ether.Ether.{Ether}
 use Rattle.ether.specs.declared.slot.Slot.{Slot}
 use Rattle.call.specs.Effects.{Accepted, Did, Hearing, Listening, Sent, effect, refused}
@@ -38,7 +38,7 @@ abbrev pub answer_in : Moment → Answer
 answer_in x = x.exchange.answer
 
 abbrev Says : List Post → Ether → Queue → (kept lost : ℕ) → Ether → Queue → Type 0
-Says = Sent (by-ether.ghosts).says (by-queue.ghosts).says (by-ether.ghosts).hears (by-queue.ghosts).hears
+Says = Sent (by_ether.ghosts).says (by_queue.ghosts).says (by_ether.ghosts).hears (by_queue.ghosts).hears
 
 abbrev said_is : (kept lost : ℕ) → Ether → Queue → SaidSo
 said_is kept lost air wire = record { kept = kept; lost = lost; slots = slots_of air; waiting = waiting_in wire }
@@ -61,7 +61,7 @@ sent_so (wire_lost {m = m} {posts = posts} {a = a} {w = w} {w₁ = v} said more)
     no_room_is (has_room (waiting_in w)) _ (sym said.0) ∙ ap (λ (q : List Message). one_lost (said_so posts (slots_of a) q)) (sym said.1) ∙ ap one_lost (sent_so more)
 
 abbrev Hears : Listening → Ether → Queue → Option Message → Ether → Queue → Type 0
-Hears = Hearing (by-ether.ghosts).says (by-queue.ghosts).says (by-ether.ghosts).hears (by-queue.ghosts).hears
+Hears = Hearing (by_ether.ghosts).says (by_queue.ghosts).says (by_ether.ghosts).hears (by_queue.ghosts).hears
 
 abbrev heard_is : Option Message → Ether → Queue → HeardSo
 heard_is o air wire = record { message = o; slots = slots_of air; waiting = waiting_in wire }
@@ -73,7 +73,7 @@ hears_so (by_wire heard) = let one = heard.0 in let two = heard.1 in cc
 
 module _ (above : ℕ → ℕ → Bool) (ranks : ℕ) (f : Frame) where
   abbrev Does : World Ether Queue → Call → Answer → World Ether Queue → Type 0
-  Does = Did (by-ether.ghosts).says (by-queue.ghosts).says (by-ether.ghosts).hears (by-queue.ghosts).hears above ranks f
+  Does = Did (by_ether.ghosts).says (by_queue.ghosts).says (by_ether.ghosts).hears (by_queue.ghosts).hears above ranks f
 
   abbrev answered_is : Answer → World Ether Queue → Answered
   answered_is answer w = record { answer = answer; model = model_of w }
@@ -81,7 +81,7 @@ module _ (above : ℕ → ℕ → Bool) (ranks : ℕ) (f : Frame) where
   abbrev so : Answer → Tables → World Ether Queue → Answered
   so answer t w = record { answer = answer; model = record { tables = t; slots = slots_of w.air; waiting = waiting_in w.wire } }
 
-  accepted_so : (before : World Ether Queue) (call : Call) (answer : Answer) (after : World Ether Queue) → Accepted (by-ether.ghosts).says (by-queue.ghosts).says (by-ether.ghosts).hears (by-queue.ghosts).hears above f before call answer after → unless_refused above ranks f None call (model_of before) ≡ answered_is answer after
+  accepted_so : (before : World Ether Queue) (call : Call) (answer : Answer) (after : World Ether Queue) → Accepted (by_ether.ghosts).says (by_queue.ghosts).says (by_ether.ghosts).hears (by_queue.ghosts).hears above f before call answer after → unless_refused above ranks f None call (model_of before) ≡ answered_is answer after
   accepted_so before call answer after x =
       let t = before.tables in
       let e = effect above f call t x.heard in
@@ -95,7 +95,7 @@ module _ (above : ℕ → ℕ → Bool) (ranks : ℕ) (f : Frame) where
   did_so : (before : World Ether Queue) (call : Call) (answer : Answer) (after : World Ether Queue) → Does before call answer after → answered above ranks f call (model_of before) ≡ answered_is answer after
   did_so before call answer after did = at (refusal_of f ranks before.tables call) did
     where
-      at : (o : Option Refusal) → MatchOption o (Accepted (by-ether.ghosts).says (by-queue.ghosts).says (by-ether.ghosts).hears (by-queue.ghosts).hears above f before call answer after) (λ refusal. (answer ≡ refused refusal) × (after ≡ before)) → unless_refused above ranks f o call (model_of before) ≡ answered_is answer after
+      at : (o : Option Refusal) → MatchOption o (Accepted (by_ether.ghosts).says (by_queue.ghosts).says (by_ether.ghosts).hears (by_queue.ghosts).hears above f before call answer after) (λ refusal. (answer ≡ refused refusal) × (after ≡ before)) → unless_refused above ranks f o call (model_of before) ≡ answered_is answer after
       at None x = accepted_so before call answer after x
       at (Some r) (is, same) = ap (λ (a : Answer). answered_is a before) (sym is) ∙ ap (λ (w : World Ether Queue). answered_is answer w) (sym same)
 
@@ -127,6 +127,6 @@ module _ (above : ℕ → ℕ → Bool) (ranks : ℕ) (f : Frame) where
             ∙ ap (λ (cs : List Call). all_answers above ranks f cs (model_of first)) (sym calls);
       }
 
-  pub run_so : {first w : World Ether Queue} {trace : List Moment} → Run (by-ether.ghosts).says (by-queue.ghosts).says (by-ether.ghosts).hears (by-queue.ghosts).hears above ranks f first trace w → RunSo first trace w
+  pub run_so : {first w : World Ether Queue} {trace : List Moment} → Run (by_ether.ghosts).says (by_queue.ghosts).says (by_ether.ghosts).hears (by_queue.ghosts).hears above ranks f first trace w → RunSo first trace w
   run_so begun = record { model = refl; answers = refl }
   run_so {first} (called {trace} {before} {after} x run did) = one_call first before after trace x (run_so run) did

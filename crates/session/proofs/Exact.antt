@@ -8,10 +8,10 @@ use Rattle.timing.specs.Limits.{period_in_limits, timer_in_limits}
 use Rattle.timing.specs.declared.period.Period.{Period}
 use Rattle.timing.specs.declared.timer.Timer.{Timer}
 use Rattle.carriers.specs.Meaning.{empty}
-use Rattle.carriers.specs.contracts.queue.lane.QueueCarrier.TheImpl as by-queue
+use Rattle.carriers.specs.contracts.queue.lane.QueueCarrier.TheImpl as by_queue
 use Rattle.carriers.specs.declared.queue.Queue.{Queue}
 use Rattle.ether.specs.Ethers.{slots_of}
-use Rattle.ether.specs.contracts.ether.listeners.EtherCarrier.TheImpl as by-ether
+use Rattle.ether.specs.contracts.ether.listeners.EtherCarrier.TheImpl as by_ether
 use Rattle.ether.specs.declared.ether.Ether.{Ether}
 use Rattle.ether.specs.declared.slot.Slot.{Slot}
 use Rattle.call.specs.Effects.{refused}
@@ -105,14 +105,14 @@ record Opens (given : Given) (air : Ether) (wire : Queue) (f : Frame) (first : W
   good : numbers_good given.numbers ≡ true
   well : Opened given air wire f first
 
-opens : (given : Given) (air : Ether) (wire : Queue) (f : Frame) (first : World Ether Queue) → Opening (by-ether.ghosts).pending (by-queue.ghosts).pending given air wire opened f first → Opens given air wire f first
+opens : (given : Given) (air : Ether) (wire : Queue) (f : Frame) (first : World Ether Queue) → Opening (by_ether.ghosts).pending (by_queue.ghosts).pending given air wire opened f first → Opens given air wire f first
 opens given air wire f first opening =
-    at (refusal_at_opening given (empty ((by-ether.ghosts).pending air) && empty ((by-queue.ghosts).pending wire))) refl opening
+    at (refusal_at_opening given (empty ((by_ether.ghosts).pending air) && empty ((by_queue.ghosts).pending wire))) refl opening
   where
-    at : (o : Option Refusal) → refusal_at_opening given (empty ((by-ether.ghosts).pending air) && empty ((by-queue.ghosts).pending wire)) ≡ o → MatchOption o ((opened ≡ opened) × Opened given air wire f first) (λ refusal. opened ≡ refused refusal) → Opens given air wire f first
+    at : (o : Option Refusal) → refusal_at_opening given (empty ((by_ether.ghosts).pending air) && empty ((by_queue.ghosts).pending wire)) ≡ o → MatchOption o ((opened ≡ opened) × Opened given air wire f first) (λ refusal. opened ≡ refused refusal) → Opens given air wire f first
     at (Some r) is e = let told = ap (λ (x : Answer). x.outcome) e in let z : ◌≡◌ {A = ℕ} 0 1 = cc in absurd (omega arith)
     at None is (e, o) =
-        let last = cond (empty ((by-ether.ghosts).pending air) && empty ((by-queue.ghosts).pending wire)) None (Some NotQuiet) in
+        let last = cond (empty ((by_ether.ghosts).pending air) && empty ((by_queue.ghosts).pending wire)) None (Some NotQuiet) in
         let settings = cond (numbers_good given.numbers) last (Some Setting) in
         let one = check_passed (sizes_good (length given.subscribers) given.rows given.stations (length given.book)) (cond (good_subscribers given.stations given.subscribers) settings (Some Identity)) Table is in
         let two = check_passed (good_subscribers given.stations given.subscribers) settings Identity one.1 in
@@ -120,8 +120,8 @@ opens given air wire f first opening =
         record { good = three.0; well = o }
 
 module _ (above : ℕ → ℕ → Bool) (ranks : ℕ) (given : Given) (air : Ether) (wire : Queue) (calls : List Call) (before after : List Answer) (c : GroupCall) (t : LentTables) (air' : Ether) (wire' : Queue) where
-  pub exact : slots_of air ≡ [] → waiting_in wire ≡ [] → Conducted (by-ether.ghosts).pending (by-queue.ghosts).pending (by-ether.ghosts).says (by-queue.ghosts).says (by-ether.ghosts).hears (by-queue.ghosts).hears above ranks given air wire calls before after c t air' wire' → take (length calls) after ≡ all_answers above ranks (frame_for given) calls (first_model given)
-  exact no-slots none_waits d =
+  pub exact : slots_of air ≡ [] → waiting_in wire ≡ [] → Conducted (by_ether.ghosts).pending (by_queue.ghosts).pending (by_ether.ghosts).says (by_queue.ghosts).says (by_ether.ghosts).hears (by_queue.ghosts).hears above ranks given air wire calls before after c t air' wire' → take (length calls) after ≡ all_answers above ranks (frame_for given) calls (first_model given)
+  exact no_slots none_waits d =
       let o = opens given air wire (frame_of c) d.first d.opening in
       let w = o.well in
       let enough : length calls ≤ length after = let e = d.enough in let p = d.places in omega arith in
@@ -130,7 +130,7 @@ module _ (above : ℕ → ℕ → Bool) (ranks : ℕ) (given : Given) (air : Eth
       let model : model_of d.first ≡ first_model given =
       ap (λ (u : Tables). record { tables = u; slots = slots_of d.first.air; waiting = waiting_in d.first.wire }) w.tables
       ∙ ap (λ (a : Ether). record { tables = first_tables given; slots = slots_of a; waiting = waiting_in d.first.wire }) w.air_kept
-      ∙ ap (λ (s : List Slot). record { tables = first_tables given; slots = s; waiting = waiting_in d.first.wire }) no-slots
+      ∙ ap (λ (s : List Slot). record { tables = first_tables given; slots = s; waiting = waiting_in d.first.wire }) no_slots
       ∙ ap (λ (q : Queue). record { tables = first_tables given; slots = []; waiting = waiting_in q }) w.wire_kept
       ∙ ap (λ (q : List Message). record { tables = first_tables given; slots = []; waiting = q }) none_waits in
       let r = run_so above ranks (frame_of c) d.run in

@@ -86,8 +86,8 @@ module _ (above : ℕ → ℕ → Bool) (b link period : ℕ) where
       let silent = (expires one.phase b time one.top one.pending one.clock).silent in
       let said = ⊎_elim (λ early. absurd (silent m early)) (λ late. late) (says_split above b link period two.said _ (Air m) h) in
       let due = noticed_due b time period two.row m said in
-      let sound-two = expired_sound period one.phase b time one.top one.pending one.clock (dropped_sound period row.pending time row ok) in
-      let grid = on_the_grid time two.row some sound-two due in
+      let sound_two = expired_sound period one.phase b time one.top one.pending one.clock (dropped_sound period row.pending time row ok) in
+      let grid = on_the_grid time two.row some sound_two due in
       let same = clock_kept time row in
       (subst (λ (c : ClockRow). c.due ≤ time) same due.reached, subst (λ (c : ClockRow). OnGrid c.start period c.due) same grid.0, subst (λ (c : ClockRow). FirstAfter c.start period time (timed b time period row).row.clock.due) same grid.1)
 

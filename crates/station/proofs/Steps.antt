@@ -329,6 +329,6 @@ module _ (above : ℕ → ℕ → Bool) (b link period : ℕ) where
       let acted = stepped above b link period ev row in
       let law = step_lawful ev row in
       ⊎_elim
-      (λ m-old. ⊎_elim (λ n-old. one_identity run m n m-old n-old e f same) (λ n-new. old_and_new row acted m n law (run_known run m m-old e) n-new f same) (says_split said acted.said (Air n) k))
-      (λ m-new. ⊎_elim (λ n-old. sym (old_and_new row acted n m law (run_known run n n-old f) m-new e (sym same))) (λ n-new. held_same acted.row.phase m.identity n.identity (law.uas m m-new e).2 (law.uas n n-new f).2) (says_split said acted.said (Air n) k))
+      (λ m_old. ⊎_elim (λ n_old. one_identity run m n m_old n_old e f same) (λ n_new. old_and_new row acted m n law (run_known run m m_old e) n_new f same) (says_split said acted.said (Air n) k))
+      (λ m_new. ⊎_elim (λ n_old. sym (old_and_new row acted n m law (run_known run n n_old f) m_new e (sym same))) (λ n_new. held_same acted.row.phase m.identity n.identity (law.uas m m_new e).2 (law.uas n n_new f).2) (says_split said acted.said (Air n) k))
       (says_split said acted.said (Air m) h)

@@ -178,7 +178,7 @@ closing (Seized rank) cause b row otherwise = otherwise
 closing (Granted rank deadline) cause b row otherwise = otherwise
 closing (Held rank identity) cause b row otherwise =
     acting (station_row (Closing rank cause) row.top row.pending row.clock) (Wire (RELEASE_INDICATION b row.top cause) ∷ [])
-closing (Closing rank held-cause) cause b row otherwise = otherwise
+closing (Closing rank held_cause) cause b row otherwise = otherwise
 
 abbrev pub on_end : (b : ℕ) → Message → Station → StationActed
 on_end b m row = cond (m.grant == row.top) (closing row.phase CallControl b row (ignoring row)) (ignoring row)
