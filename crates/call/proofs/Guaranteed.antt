@@ -1,6 +1,6 @@
 -- The guarantee follows from the invariant.
 -- Assumes nothing.
-use Rattle.std.proofs.Common.{◌≡◌, ℕ, ◌-◌, ◌<◌, ◌≤◌, Bool, true, false, not, ◌&&◌, List, [], ◌∷◌, Some, None, Option, sym, ap, ◌∙◌, subst, inl, inr, arith}
+use Rattle.std.proofs.Common.{◌≡◌, ℕ, ◌<◌, ◌≤◌, Bool, true, false, not, ◌&&◌, List, [], ◌∷◌, Some, None, Option, sym, ap, ◌∙◌, subst, inl, inr, arith}
 use Rattle.messages.specs.declared.message.Message.{Message}
 use Rattle.mobile.specs.Steps.{listens_in}
 use Rattle.mobile.specs.declared.row.Mobile.{Mobile}

@@ -7,7 +7,7 @@ use Rattle.messages.specs.declared.message.Kind.{Kind}
 use Rattle.messages.specs.declared.message.Kind.TheVariants.{Downlink, Uplink as Up, Anchor, Station as ToStation}
 use Rattle.messages.specs.declared.message.Message.{Message}
 use Rattle.mobile.specs.Rows.{attempt_number, open_to}
-use Rattle.mobile.specs.Steps.{MobileActed, knowing, rejected, attempts, waits, links, talk_begun, talk_ended, asked_in, finished_in, on_free_in, on_busy_in, on_grant_in, on_ua_in, on_release_in, heard_kind, heard, again, unanswered, timed_in}
+use Rattle.mobile.specs.Steps.{MobileActed, knowing, rejected, attempts, waits, links, talk_begun, asked_in, finished_in, on_free_in, on_busy_in, on_grant_in, on_ua_in, on_release_in, heard_kind, heard, again, unanswered, timed_in}
 use Rattle.mobile.specs.declared.row.Attempt.{Attempt as Try}
 use Rattle.mobile.specs.declared.row.Attempt.TheVariants.{First, Second, Third}
 use Rattle.mobile.specs.declared.row.Mobile.{Mobile}

@@ -1,6 +1,6 @@
 -- Each of the ten calls keeps the lines of the whole.
 -- Assumes nothing.
-use Rattle.std.proofs.Common.{◌≡◌, ℕ, Bool, true, false, cond, eqb, Some, None, Option, sym, refl, subst}
+use Rattle.std.proofs.Common.{◌≡◌, ℕ, Bool, true, cond, eqb, Some, None, Option, sym, refl, subst}
 use Rattle.std.proofs.lemmas.Bool.{cond_both, cond-true, cond-false, eq-eqb, ne_eqb, false≢true}
 use Rattle.messages.specs.declared.message.Message.{Message}
 use Rattle.mobile.specs.Laws.{MobileEvent, UserAsks, UserEnds, Hears, TimerRead, mobile_acted}

@@ -1,6 +1,6 @@
 -- The Fade's steps keep a carrier's meaning, whatever the carrier under it.
 -- Assumes nothing.
-use Rattle.std.specs.Prelude.{◌≡◌, ℕ, Bool, true, false, ◌||◌, ◌⊎◌, List, MatchBool, ◌==◌}
+use Rattle.std.specs.Prelude.{◌≡◌, ℕ, Bool, true, false, ◌||◌, List, MatchBool, ◌==◌}
 use Rattle.std.proofs.Common.{inl, ⊎_elim, sym, ap, subst, ◌∙◌}
 use Rattle.std.proofs.lemmas.Bool.{true≢false, false≢true}
 use Rattle.messages.specs.declared.message.Message.{Message}

@@ -1,6 +1,6 @@
 -- The slots of an Ether as a ring: its list after a write at the oldest place, and the place of the first slot that passes.
 -- Assumes nothing.
-use Rattle.std.proofs.Common.{◌≡◌, ℕ, suc, ◌+◌, ◌-◌, ◌<◌, ◌≤◌, Bool, true, false, cond, List, [], ◌∷◌, ◌++◌, length, get_or, take, drop, set, Some, None, Option, sym, refl, ap, ◌∙◌, append_assoc, append-nil, arith, length-append, length-drop, MatchOption}
+use Rattle.std.proofs.Common.{◌≡◌, ℕ, suc, ◌+◌, ◌<◌, ◌≤◌, Bool, true, false, cond, List, [], ◌∷◌, ◌++◌, length, get_or, take, drop, set, Some, None, Option, sym, refl, ap, ◌∙◌, append_assoc, append-nil, arith, length-append, length-drop, MatchOption}
 use Rattle.std.proofs.lemmas.List.{length-take-le, drop-set-lt, drop-set-add, take-set-le, take_more_set, drop_more, drop_all, set_split, get_or-drop, get_or-take, set-append_left, length-set, take_at, take-append-drop}
 use Rattle.ether.specs.Ethers.{rotated, no_slot, SlotAt}
 use Rattle.std.proofs.lemmas.Bool.{cond-true, cond-false}

@@ -3,7 +3,6 @@
 use Rattle.std.specs.Prelude.{ℕ, Some, None, Option}
 use Rattle.messages.specs.Addresses.{anchor_at, station_at, cell_at}
 use Rattle.messages.specs.declared.message.Message.{Message}
-use Rattle.messages.specs.declared.message.Kind.{Kind}
 use Rattle.messages.specs.declared.message.Kind.TheVariants.{Downlink, Uplink, Anchor, Station}
 use Rattle.messages.specs.declared.message.DownlinkKind.{DownlinkKind}
 use Rattle.messages.specs.declared.message.DownlinkKind.TheVariants.{Free, Busy, Grant, Ua, Release}

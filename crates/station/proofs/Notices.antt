@@ -1,6 +1,6 @@
 -- What a station's timer says on the air is a notice that fell due on the grid of its clock.
 -- Assumes nothing.
-use Rattle.std.proofs.Common.{◌≡◌, ℕ, ◌-◌, ◌<◌, ◌≤◌, Bool, true, false, cond, not, ◌&&◌, eqb, ltb, leb, ◌⊎◌, Some, None, Option, sym, refl, ap, ◌∙◌, subst, ⊎_elim, arith}
+use Rattle.std.proofs.Common.{◌≡◌, ℕ, ◌<◌, ◌≤◌, Bool, true, false, not, ◌&&◌, ltb, leb, Some, None, Option, sym, refl, ap, ◌∙◌, subst, ⊎_elim, arith}
 use Rattle.std.proofs.lemmas.Bool.{cond_both, cond-true, and_parts, not-true, ltb-true, leb-true, eqb-true, true≢false}
 use Rattle.messages.specs.declared.message.Cause.TheVariants.{RadioFailure}
 use Rattle.messages.specs.declared.message.Message.{Message}

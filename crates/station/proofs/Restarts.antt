@@ -1,6 +1,6 @@
 -- When a station's notice clock restarts: exactly on entering Free, Seized or Granted.
 -- Assumes nothing.
-use Rattle.std.proofs.Common.{◌≡◌, ℕ, Bool, true, false, cond, not, ◌&&◌, eqb, ltb, leb, Some, None, MatchBool, Option, sym, refl, ap, ◌∙◌, subst, arith}
+use Rattle.std.proofs.Common.{◌≡◌, ℕ, Bool, true, false, not, ◌&&◌, eqb, ltb, leb, Some, None, MatchBool, Option, sym, refl, ap, ◌∙◌, subst, arith}
 use Rattle.std.proofs.lemmas.Bool.{cond_both, le-ltb}
 use Rattle.messages.specs.declared.message.Cause.{Cause}
 use Rattle.messages.specs.declared.message.Cause.TheVariants.{CallControl}

@@ -1,9 +1,9 @@
 -- A scan that passed over every earlier element has found the first that passes.
 -- Assumes nothing.
-use Rattle.std.proofs.Common.{◌≡◌, ℕ, zero, suc, ◌<◌, Bool, true, false, cond, List, [], ◌∷◌, length, get_or, refl, ap, ◌∙◌, le_of_suc-le-suc, not-suc-le-zero, arith}
+use Rattle.std.proofs.Common.{◌≡◌, ℕ, zero, suc, ◌<◌, Bool, true, false, List, [], ◌∷◌, length, get_or, refl, ap, ◌∙◌, le_of_suc-le-suc, not-suc-le-zero, arith}
 use Rattle.std.proofs.lemmas.List.{get_or_default}
 use Rattle.std.proofs.lemmas.Bool.{cond-true, cond-false}
-use Rattle.carriers.specs.Firsts.{first, Nowhere, FirstAt}
+use Rattle.carriers.specs.Firsts.{Nowhere, FirstAt}
 
 -- the first n elements do not pass
 abbrev pub Passed : {X : Type 0} → (X → Bool) → List X → ℕ → Type 0
