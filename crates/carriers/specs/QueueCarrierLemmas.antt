@@ -1,3 +1,5 @@
+-- The laws of a carrier, for the Queue.
+-- Assumes nothing.
 use Rattle.std.specs.Prelude.{◌≡◌, ℕ, true, List, map, IfSome, Some, None, Option}
 use Rattle.std.proofs.Common.{subst}
 use Rattle.std.proofs.lemmas.List.{map-id}

@@ -1,3 +1,5 @@
+-- The laws of a carrier, for the Ether.
+-- Assumes nothing.
 use Rattle.std.specs.Prelude.{◌≡◌, ℕ, Bool, true, false, cond, not, List, [], ◌∷◌, ◌++◌, map, length, drop, IfSome, Some, None, Option, nat_le, nat_lt, slice_index_or, refl}
 use Rattle.std.proofs.Common.{inl, inr, ⊎_elim, sym, ap, subst}
 use Rattle.std.specs.Option.{option_map}

@@ -1,7 +1,7 @@
 -- A rendering reads as what was rendered.
 -- Assumes nothing.
 use Rattle.std.proofs.Common.{◌≡◌, ℕ, ◌+◌, ◌^◌, ◌<◌, ◌≤◌, Bool, true, false, cond, not, ◌&&◌, ◌||◌, eqb, leb, List, [], ◌∷◌, ◌++◌, map, length, get_or, drop, Some, None, Ok, Err, decimal, Option, Result, sym, refl, ap, ◌∙◌, ⊎_elim, arith, rules}
-use Rattle.std.specs.List.{AllByRecursion as All}
+use Rattle.std.specs.List.{AllByRecursion}
 use Rattle.std.proofs.lemmas.Fmt.{decimal_digit, decimal_nonempty, digits_decimal, first_decimal, length-decimal-le, digits_value-decimal}
 use Rattle.std.proofs.ByRecursion.{All-append}
 use Rattle.std.proofs.lemmas.List.{length-map}
@@ -80,7 +80,7 @@ module _ (n : ℕ) (small : n ≤ 9999999999999) where
 
 -- no byte is the mark
 abbrev Free : ℕ → List ℕ → Type 0
-Free mark bs = All (λ b. b ≡ mark → ⊥) bs
+Free mark bs = AllByRecursion (λ b. b ≡ mark → ⊥) bs
 
 digits_free : (mark : ℕ) → mark < 48 → (bs : List ℕ) → all_digits bs ≡ true → Free mark bs
 digits_free mark low [] is = tt

@@ -1,7 +1,7 @@
 -- What holds of every text and of every list of entries.
 -- Assumes nothing.
 use Rattle.std.specs.Prelude.{◌≡◌, ℕ, zero, suc, ◌+◌, ◌-◌, ◌≤◌, true, false, List, [], ◌∷◌, length, Some, Ok, Err, Option, ◌≢◌}
-use Rattle.std.specs.List.{AllByRecursion as All}
+use Rattle.std.specs.List.{AllByRecursion}
 use Rattle.playlist.specs.Entries.{Good, fault_of, judged, reading}
 use Rattle.playlist.specs.Forms.{Entry, limit}
 use Rattle.playlist.specs.Orders.{follows, may_end}
@@ -21,7 +21,7 @@ Within kind field (n ∷ ns) = (n ≤ limit kind field) × Within kind (field + 
 -- numbers within their limits, and no byte 10 in a note
 abbrev pub Writable : Written → Type 0
 Writable (lettered kind ns) = Within kind 2 ns
-Writable (noted bytes) = All (λ b. b ≢ 10) bytes
+Writable (noted bytes) = AllByRecursion (λ b. b ≢ 10) bytes
 
 -- the place after an entry, where it may stand; a note may stand anywhere
 abbrev pub place_after : Place → Written → Option Place

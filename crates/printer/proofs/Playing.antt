@@ -1,13 +1,12 @@
 -- What the rows of a played text are.
 -- Assumes nothing.
-use Rattle.std.proofs.Common.{◌≡◌, ℕ, List, ◌++◌, Some, None, Ok, Option, Result, sym, ap, ◌∙◌, subst}
+use Rattle.std.proofs.Common.{◌≡◌, ℕ, List, ◌++◌, None, Ok, Option, sym, ap, ◌∙◌, subst}
 use Rattle.call.specs.declared.answer.Answer.{Answer}
 use Rattle.call.specs.declared.answer.Refusal.{Refusal}
 use Rattle.playlist.specs.Collections.{Records, collected, no_records}
 use Rattle.playlist.specs.Forms.{Entry}
 use Rattle.playlist.specs.Entries.{reading}
 use Rattle.playlist.specs.Stands.{Stand, first_stand, reading_on}
-use Rattle.playlist.specs.declared.fault.Fault.{Fault}
 use Rattle.playlist.proofs.Laws.{reading_first}
 use Rattle.printer.specs.Playlists.{answers_of, played, printed_entries, refusal_of}
 use Rattle.printer.specs.Prints.{Printed, rows_from}

@@ -1,6 +1,6 @@
 -- The settings that numbers within their limits stand for, and what a session begins with.
 -- Assumes nothing.
-use Rattle.std.specs.Prelude.{◌≡◌, ℕ, ◌≤◌, Bool, true, false, [], nat_le, refl}
+use Rattle.std.specs.Prelude.{◌≡◌, ℕ, Bool, true, false, [], nat_le, refl}
 use Rattle.std.proofs.Common.{lit≤}
 use Rattle.std.proofs.lemmas.Bool.{and_parts, leb-true}
 use Rattle.timing.specs.Limits.{period_in_limits, timer_in_limits}

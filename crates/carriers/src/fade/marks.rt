@@ -27,14 +27,10 @@ impl<C: Carrier> Carrier for Fade<C> {
     ghost hears = { λ f a l o d. FadeHears C.Carrier.hears f.under f.marks f.next a l o d.under d.marks d.next };
 
     ghost kept = { λ c m d h.
-        let under = C.Carrier in
-        let met = C.Carrier in
-        mark_kept under.pending under.says met.kept met.lost (slice_index c.marks c.next) c.under m d.under h.0 };
+        mark_kept C.Carrier.pending C.Carrier.says C.Carrier.kept C.Carrier.lost (slice_index c.marks c.next) c.under m d.under h.0 };
 
     ghost lost = { λ c m d h.
-        let under = C.Carrier in
-        let met = C.Carrier in
-        mark_lost under.pending under.says met.kept met.lost (slice_index c.marks c.next) c.under m d.under h.0 };
+        mark_lost C.Carrier.pending C.Carrier.says C.Carrier.kept C.Carrier.lost (slice_index c.marks c.next) c.under m d.under h.0 };
 
     ghost heard = { λ c a l o d h. C.Carrier.heard c.under a l o d.under h.0 };
 

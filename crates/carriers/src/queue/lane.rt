@@ -1,6 +1,6 @@
 // The Queue's steps.
 ghost use Rattle.std.specs.Prelude.{◌≡◌, [], IfOk, MatchOption};
-ghost use Rattle.std.proofs.Common.{sym, subst, ◌∙◌, rules, arith};
+ghost use Rattle.std.proofs.Common.{sym, subst, ◌∙◌, rules};
 ghost use Rattle.carriers.specs.Firsts.{Nowhere, FirstAt, first};
 ghost use Rattle.carriers.specs.Queues.{has_room, enqueued, goes_to, oldest, without_oldest};
 ghost use Rattle.std.proofs.lemmas.Bool.{cond-true};
@@ -47,7 +47,7 @@ impl Carrier for Queue {
         let waiting = c.waiting.items in
         subst (Joined m waiting) (sym (h.1 ∙ cond-true (has_room waiting) _ _ (sym h.0))) (joined_push waiting m) };
 
-    ghost lost = { first_of (Prim.search rules, Prim.grind (arith, Self.row.coded.inj)) };
+    ghost lost = { Prim.search rules };
 
     ghost heard = { λ c a l o d h.
         let waiting = c.waiting.items in

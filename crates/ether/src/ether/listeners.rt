@@ -1,6 +1,6 @@
 // The Ether's steps.
 ghost use Rattle.std.specs.Prelude.{◌≡◌, true, [], map, IfOk};
-ghost use Rattle.std.proofs.Common.{sym, subst, rules, arith};
+ghost use Rattle.std.proofs.Common.{sym, subst, rules};
 ghost use Rattle.ether.specs.Ethers.{slots_of, message_in, with_newest, next_heard, after_hearing};
 ghost use Rattle.carriers.specs.Meaning.{Joined, Picked};
 ghost use Rattle.ether.specs.EtherCarrierLemmas.{joined_newest, picked};
@@ -32,7 +32,7 @@ impl Carrier for Ether {
 
     ghost kept = { λ c m d h. subst (λ after. Joined m (map message_in (slots_of c)) (map message_in after)) (sym h.1) (joined_newest m (slots_of c)) };
 
-    ghost lost = { first_of (Prim.search rules, Prim.grind (arith, Self.row.coded.inj)) };
+    ghost lost = { Prim.search rules };
 
     ghost heard = { λ c a l o d h.
         subst (λ q. Picked a q (map message_in (slots_of c)) (map message_in (slots_of d))) (sym h.0)

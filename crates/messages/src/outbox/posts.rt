@@ -1,5 +1,5 @@
 // Filling an outbox, and reading what it holds.
-ghost use Rattle.std.specs.Prelude.{◌≡◌, ◌<◌, ltb, [], ◌∷◌, ◌++◌, length, if◌then◌else◌, nat_lt};
+ghost use Rattle.std.specs.Prelude.{◌≡◌, ◌<◌, [], ◌∷◌, ◌++◌, length, if◌then◌else◌, nat_lt};
 ghost use Rattle.messages.specs.Posts.{posts};
 
 use super::super::message::Message;
@@ -42,7 +42,7 @@ impl Outbox {
     // One more at the end, and true; where ten are there already, nothing, and false.
     pub fn push(&mut self, post: Post) -> bool
         ensures kept { result ≡ nat_lt (length (posts self.old)) 10 }
-        ensures holds { posts self.new ≡ (if ltb (length (posts self.old)) 10 then posts self.old ++ post ∷ [] else posts self.old) }
+        ensures holds { posts self.new ≡ (if nat_lt (length (posts self.old)) 10 then posts self.old ++ post ∷ [] else posts self.old) }
     {
         if self.len() >= 10 {
             return false;

@@ -1,7 +1,7 @@
 // Making a role book, and its ranks: role a is above role b when its level is greater and its district is 0 or that of b.
 ghost use Rattle.std.specs.Prelude.{◌≡◌, true, false, MatchResult};
 ghost use Rattle.schemes.specs.Roles.{in_limits, every_in_limits, outranks};
-ghost use Rattle.std.proofs.Common.{rules, arith};
+ghost use Rattle.std.proofs.Common.{rules};
 
 use super::super::role::Role;
 use super::super::scheme::RankScheme;
@@ -53,13 +53,13 @@ impl RankScheme for RoleBook {
 
     ghost above = { λ book a b. outranks book.roles a b };
 
-    ghost counted = { first_of (Prim.search rules, Prim.grind (arith, Self.row.coded.inj)) };
+    ghost counted = { Prim.search rules };
 
-    ghost bounded = { first_of (Prim.search rules, Prim.grind (arith, Self.row.coded.inj)) };
+    ghost bounded = { Prim.search rules };
 
-    ghost irreflexive = { first_of (Prim.search rules, Prim.grind (arith, Self.row.coded.inj)) };
+    ghost irreflexive = { Prim.search rules };
 
-    ghost transitive = { first_of (Prim.search rules, Prim.grind (arith, Self.row.coded.inj)) };
+    ghost transitive = { Prim.search rules };
 
     fn rank_count() -> u8 {
         Self::RANKS

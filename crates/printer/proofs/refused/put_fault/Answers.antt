@@ -1,4 +1,4 @@
-use Rattle.std.proofs.Common.{◌≡◌, ℕ, List, [], ◌∷◌, ◌++◌, vec_items, decimal, ap, ◌∙◌}
+use Rattle.std.proofs.Common.{◌≡◌, ℕ, [], ◌∷◌, ◌++◌, vec_items, decimal, ap, ◌∙◌}
 use Rattle.printer.specs.Rows.{tabbed}
 use Rattle.printer.proofs.Appends.{onto}
 use Rattle.printer.proofs.refused.put_fault.Goals as goal

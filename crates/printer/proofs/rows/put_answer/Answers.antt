@@ -1,6 +1,6 @@
-use Rattle.std.proofs.Common.{◌≡◌, ℕ, List, [], ◌∷◌, ◌++◌, vec_items, decimal, ap, ◌∙◌}
+use Rattle.std.proofs.Common.{◌≡◌, ℕ, [], ◌∷◌, ◌++◌, vec_items, decimal, ap, ◌∙◌}
 use Rattle.call.specs.Numbers.{told}
-use Rattle.printer.specs.Rows.{answer_row, tabbed}
+use Rattle.printer.specs.Rows.{tabbed}
 use Rattle.printer.proofs.Appends.{onto}
 use Rattle.printer.proofs.rows.put_answer.Goals as goal
 
