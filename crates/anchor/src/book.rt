@@ -1,4 +1,5 @@
-// The grant book: reading it, and writing in place.
+// The grant book: reading it, and writing in place. The book and the number of its last grant are two parameters, since they lie with two
+// owners: the places are lent, to readers by a shared borrow, and the number stands in the record of the call.
 ghost use Rattle.std.specs.Prelude.{◌≡◌, ◌<◌, ◌≤◌, length, OnSome, slice_set};
 ghost use Rattle.anchor.specs.Anchors.{standing, book_full, with_last};
 
@@ -9,10 +10,8 @@ pub(crate) fn standing_grant(book: &[Entry], last: u32) -> Option<Entry>
     ensures grant { result ≡ standing book.now last }
     ensures within { OnSome result ((1 ≤ last) × (last ≤ length book.now)) }
 {
-    if last < 1 || last as usize > book.len() {
-        return None;
-    }
-    let entry = book[last as usize - 1];
+    let place = (last as usize).checked_sub(1)?;
+    let entry = *book.get(place)?;
     match entry.end {
         End::Stands => Some(entry),
         End::Ended(_) => None,

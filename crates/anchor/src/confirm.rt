@@ -3,7 +3,7 @@ ghost use Rattle.anchor.specs.Anchors.{StepIs, standing, on_confirmation};
 
 use super::book::{change_last, standing_grant};
 use super::entry::Entry;
-use super::step::{AnchorOutcome, AnchorStep, ignore};
+use super::step::{AnchorStep, acted, ignore};
 use messages::{Message, Outbox};
 
 // The identity is written once, for the standing grant.
@@ -16,11 +16,7 @@ pub(crate) fn on_confirmation(book: &mut [Entry], last: u32, message: Message) -
             if message.grant == last && held.identity == 0 {
                 let identity = message.identity;
                 change_last(book, last, Entry { identity, ..held });
-                AnchorStep {
-                    last,
-                    outcome: AnchorOutcome::Acted,
-                    outbox: Outbox::new(),
-                }
+                acted(last, Outbox::new())
             } else {
                 ignore(last)
             }

@@ -5,27 +5,29 @@ ghost use Rattle.anchor.specs.Entries.{mark_number, end_number};
 use messages::Cause;
 
 // How the floor was when the grant was given.
-#[derive(Clone, Copy)]
+#[derive(Clone, Copy, PartialEq, Eq, Debug, Default)]
 pub enum Mark {
-    Preempts,
-    UplinkWasFree,
+    #[default]
+    Preempts = 0,
+    UplinkWasFree = 1,
 }
 
 // How a grant ended, if it did.
-#[derive(Clone, Copy)]
+#[derive(Clone, Copy, PartialEq, Eq, Debug, Default)]
 pub enum End {
+    #[default]
     Stands,
     Ended(Cause),
     Preempted,
 }
 
-#[derive(Clone, Copy)]
+#[derive(Clone, Copy, Default)]
 pub struct Entry {
     pub station: u8,
     pub reference: u16,
     pub rank: u8,
     pub mark: Mark,
-    // 0 while the talker is unconfirmed
+    // 0 while the talker is unconfirmed; no Option, since a CONFIRMATION of identity 0 leaves it unconfirmed
     pub identity: u32,
     pub end: End,
 }
@@ -35,15 +37,12 @@ impl Mark {
     pub fn number(self) -> u8
         ensures { result ≡ mark_number self }
     {
-        match self {
-            Mark::Preempts => 0,
-            Mark::UplinkWasFree => 1,
-        }
+        self as u8
     }
 }
 
 impl End {
-    // 0 stands, 1 to 3 the cause's number, 4 pre-empted.
+    // 0 stands, 1 to 3 the cause's number, 4 pre-empted. Ended holds a cause, so these are no numbers of the variants.
     pub fn number(self) -> u8
         ensures { result ≡ end_number self }
     {

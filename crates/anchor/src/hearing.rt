@@ -9,7 +9,7 @@ use super::indicate::on_release_indication;
 use super::request::on_request;
 use super::says::command_all;
 use super::stations::Stations;
-use super::step::{AnchorOutcome, AnchorRefusal, AnchorStep, ignore};
+use super::step::{AnchorRefusal, AnchorStep, acted, ignore};
 use messages::{AnchorKind, Kind, Message};
 use schemes::RankScheme;
 
@@ -17,10 +17,7 @@ use schemes::RankScheme;
 pub fn is_free(book: &[Entry], last: u32) -> bool
     ensures { result ≡ floor_free book.now last }
 {
-    match standing_grant(book, last) {
-        None => true,
-        Some(_) => false,
-    }
+    standing_grant(book, last).is_none()
 }
 
 // One message heard. Any but those for the anchor is ignored.
@@ -34,14 +31,12 @@ pub fn hear<S: RankScheme>(
     ensures { StepIs (anchor_heard (S.RankScheme.above scheme.now) stations.count book.old last message) book.new result }
 {
     match message.kind {
-        Kind::Downlink(_) => ignore(last),
-        Kind::Uplink(_) => ignore(last),
         Kind::Anchor(AnchorKind::Request) => on_request(book, last, message, stations, scheme),
         Kind::Anchor(AnchorKind::Confirmation) => on_confirmation(book, last, message),
         Kind::Anchor(AnchorKind::ReleaseIndication) => {
             on_release_indication(book, last, message, stations)
         }
-        Kind::Station(_) => ignore(last),
+        Kind::Downlink(_) | Kind::Uplink(_) | Kind::Station(_) => ignore(last),
     }
 }
 
@@ -52,9 +47,5 @@ pub fn release(book: &[Entry], last: u32, stations: Stations) -> Result<AnchorSt
     if !is_free(book, last) {
         return Err(AnchorRefusal::NotFree);
     }
-    Ok(AnchorStep {
-        last,
-        outcome: AnchorOutcome::Acted,
-        outbox: command_all(stations.count(), last),
-    })
+    Ok(acted(last, command_all(stations.count(), last)))
 }

@@ -6,18 +6,14 @@ use super::book::{change_last, standing_grant};
 use super::entry::{End, Entry};
 use super::says::{command_all, one, restate};
 use super::stations::Stations;
-use super::step::{AnchorOutcome, AnchorStep};
+use super::step::{AnchorStep, acted};
 use messages::Message;
 
 // A station is told again how the floor is.
 pub(crate) fn tell_again(book: &[Entry], last: u32, station: u8, held: Option<Entry>) -> AnchorStep
     ensures { StepIs (restates book.now last station held) book.now result }
 {
-    AnchorStep {
-        last,
-        outcome: AnchorOutcome::Acted,
-        outbox: one(restate(last, station, held)),
-    }
+    acted(last, one(restate(last, station, held)))
 }
 
 // The standing grant ends with the cause that the message names.
@@ -36,11 +32,7 @@ fn end_grant(
         Some(cause) => {
             let end = End::Ended(cause);
             change_last(book, last, Entry { end, ..held });
-            AnchorStep {
-                last,
-                outcome: AnchorOutcome::Acted,
-                outbox: command_all(stations.count(), last),
-            }
+            acted(last, command_all(stations.count(), last))
         }
     }
 }

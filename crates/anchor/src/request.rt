@@ -7,7 +7,7 @@ use super::entry::{End, Entry, Mark};
 use super::indicate::tell_again;
 use super::says::{announce, one, restate, two};
 use super::stations::Stations;
-use super::step::{AnchorOutcome, AnchorStep};
+use super::step::{AnchorOutcome, AnchorStep, acted};
 use messages::Message;
 use schemes::RankScheme;
 
@@ -40,11 +40,11 @@ fn grant(
             end: End::Stands,
         },
     );
-    AnchorStep {
-        last: last + 1,
-        outcome: AnchorOutcome::Acted,
-        outbox: announce(station, reference, rank, last + 1, stations.count()),
-    }
+    let number = last + 1;
+    acted(
+        number,
+        announce(station, reference, rank, number, stations.count()),
+    )
 }
 
 // The book is full.
@@ -63,11 +63,7 @@ fn reject(book: &[Entry], last: u32, message: Message, held: Entry) -> AnchorSte
     ensures { StepIs (rejected book.now last message held) book.now result }
 {
     let no = Message::reject(message.station, message.reference, message.rank);
-    AnchorStep {
-        last,
-        outcome: AnchorOutcome::Acted,
-        outbox: two(no, restate(last, message.station, Some(held))),
-    }
+    acted(last, two(no, restate(last, message.station, Some(held))))
 }
 
 // On a free floor.

@@ -29,7 +29,7 @@ pub(crate) fn two(first: Message, second: Message) -> Outbox
     Outbox::two(Post::Wire(first), Post::Wire(second))
 }
 
-// RELEASE COMMAND to every station.
+// RELEASE COMMAND to every station. The loop goes over how many were told before, as the definition counts them.
 pub(crate) fn command_all(count: u8, grant: u32) -> Outbox
     requires { count ≤ 8 }
     ensures { posts result ≡ commands grant count }
@@ -41,7 +41,7 @@ pub(crate) fn command_all(count: u8, grant: u32) -> Outbox
     outbox
 }
 
-// ACKNOWLEDGE to the granted station, SEIZED to every other.
+// ACKNOWLEDGE to the granted station, SEIZED to every other. The loop goes over how many were told before, as the definition counts them.
 pub(crate) fn announce(station: u8, reference: u16, rank: u8, grant: u32, count: u8) -> Outbox
     requires { count ≤ 8 }
     ensures { posts result ≡ announced station reference rank grant count }

@@ -1,4 +1,4 @@
-// How many stations there are: 1 to 8.
+// How many stations there are: 1 to 8. A count, read as the `u8` that stations are numbered by, and so no number of milliseconds.
 ghost use Rattle.std.specs.Prelude.{◌≤◌};
 
 #[derive(Clone, Copy)]

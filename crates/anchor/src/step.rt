@@ -4,7 +4,7 @@ ghost use Rattle.messages.specs.Posts.{posts};
 
 use messages::Outbox;
 
-#[derive(Clone, Copy)]
+#[derive(Clone, Copy, PartialEq, Eq, Debug)]
 pub enum AnchorOutcome {
     Ignored,
     Acted,
@@ -14,14 +14,14 @@ pub enum AnchorOutcome {
 
 #[derive(Clone, Copy)]
 pub struct AnchorStep {
-    // the last grant's number, 0 where there is none
+    // the last grant's number, 0 where there is none; no Option, since the next grant has this and one
     pub last: u32,
     pub outcome: AnchorOutcome,
     pub outbox: Outbox,
 }
 
 // Why the anchor did not release.
-#[derive(Clone, Copy)]
+#[derive(Clone, Copy, PartialEq, Eq, Debug)]
 pub enum AnchorRefusal {
     // a grant stands
     NotFree,
@@ -35,5 +35,16 @@ pub(crate) fn ignore(last: u32) -> AnchorStep
         last,
         outcome: AnchorOutcome::Ignored,
         outbox: Outbox::new(),
+    }
+}
+
+// The last grant has this number then, and this is said.
+pub(crate) fn acted(last: u32, outbox: Outbox) -> AnchorStep
+    ensures { (result.last ≡ last) × (result.outbox ≡ outbox) × (result.outcome ≡ AnchorOutcome.Acted) }
+{
+    AnchorStep {
+        last,
+        outcome: AnchorOutcome::Acted,
+        outbox,
     }
 }

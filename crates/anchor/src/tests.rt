@@ -15,32 +15,12 @@ fn blank() -> Entry {
     }
 }
 
-fn outcome(step: &AnchorStep) -> u8 {
-    match step.outcome {
-        AnchorOutcome::Ignored => 0,
-        AnchorOutcome::Acted => 1,
-        AnchorOutcome::Full => 2,
-    }
-}
-
-fn kind_number(kind: Kind) -> u8 {
-    match kind {
-        Kind::Station(StationKind::Acknowledge) => 1,
-        Kind::Station(StationKind::Reject) => 2,
-        Kind::Station(StationKind::Seized) => 3,
-        Kind::Station(StationKind::ReleaseCommand) => 4,
-        _ => 0,
-    }
-}
-
-fn says(step: &AnchorStep, place: usize, kind: u8, station: u16, grant: u32) -> bool {
-    let posts = step.outbox.as_slice();
-    if place >= posts.len() {
-        return false;
-    }
-    match posts[place] {
-        Post::Wire(m) => kind_number(m.kind) == kind && m.address == station && m.grant == grant,
-        Post::Air(_) => false,
+fn says(step: &AnchorStep, place: usize, kind: StationKind, station: u16, grant: u32) -> bool {
+    match step.outbox.as_slice().get(place) {
+        Some(Post::Wire(m)) => {
+            m.kind == Kind::Station(kind) && m.address == station && m.grant == grant
+        }
+        _ => false,
     }
 }
 
@@ -48,31 +28,23 @@ fn count_said(step: &AnchorStep) -> usize {
     step.outbox.as_slice().len()
 }
 
+fn heard(book: &mut [Entry], last: u32, message: Message) -> Result<AnchorStep, Fail> {
+    let stations = Stations::new(3).ok_or(3u8)?;
+    Ok(hear(book, last, message, stations, &Priorities))
+}
+
 // An equal REQUEST is answered with the standing grant again.
 #[test]
 fn equal_request(rt: HostRuntime) -> Result<(), Fail> {
-    let stations = Stations::new(3).ok_or(3u8)?;
     let mut book = [blank(); 3];
-    let first = hear(
-        &mut book,
-        0,
-        Message::request(2, 7, 0),
-        stations,
-        &Priorities,
-    );
-    assert!(rt; says(&first, 0, 1, 2, 1));
-    assert!(rt; says(&first, 1, 3, 1, 1));
-    assert!(rt; says(&first, 2, 3, 3, 1));
+    let first = heard(&mut book, 0, Message::request(2, 7, 0))?;
+    assert!(rt; says(&first, 0, StationKind::Acknowledge, 2, 1));
+    assert!(rt; says(&first, 1, StationKind::Seized, 1, 1));
+    assert!(rt; says(&first, 2, StationKind::Seized, 3, 1));
     assert!(rt; count_said(&first) == 3);
-    let again = hear(
-        &mut book,
-        first.last,
-        Message::request(2, 7, 0),
-        stations,
-        &Priorities,
-    );
+    let again = heard(&mut book, first.last, Message::request(2, 7, 0))?;
     assert!(rt; again.last == 1);
-    assert!(rt; says(&again, 0, 1, 2, 1));
+    assert!(rt; says(&again, 0, StationKind::Acknowledge, 2, 1));
     assert!(rt; count_said(&again) == 1);
     Ok(())
 }
@@ -80,26 +52,13 @@ fn equal_request(rt: HostRuntime) -> Result<(), Fail> {
 // Privileged against privileged: REJECT, and what stands.
 #[test]
 fn equal_rank(rt: HostRuntime) -> Result<(), Fail> {
-    let stations = Stations::new(3).ok_or(3u8)?;
     let mut book = [blank(); 3];
-    let first = hear(
-        &mut book,
-        0,
-        Message::request(2, 7, 1),
-        stations,
-        &Priorities,
-    );
-    let second = hear(
-        &mut book,
-        first.last,
-        Message::request(3, 8, 1),
-        stations,
-        &Priorities,
-    );
+    let first = heard(&mut book, 0, Message::request(2, 7, 1))?;
+    let second = heard(&mut book, first.last, Message::request(3, 8, 1))?;
     assert!(rt; second.last == 1);
-    assert!(rt; outcome(&second) == 1);
-    assert!(rt; says(&second, 0, 2, 3, 0));
-    assert!(rt; says(&second, 1, 3, 3, 1));
+    assert!(rt; second.outcome == AnchorOutcome::Acted);
+    assert!(rt; says(&second, 0, StationKind::Reject, 3, 0));
+    assert!(rt; says(&second, 1, StationKind::Seized, 3, 1));
     assert!(rt; count_said(&second) == 2);
     Ok(())
 }
@@ -107,22 +66,9 @@ fn equal_rank(rt: HostRuntime) -> Result<(), Fail> {
 // A higher rank ends the former grant as pre-empted.
 #[test]
 fn higher_rank(rt: HostRuntime) -> Result<(), Fail> {
-    let stations = Stations::new(3).ok_or(3u8)?;
     let mut book = [blank(); 3];
-    let first = hear(
-        &mut book,
-        0,
-        Message::request(2, 7, 1),
-        stations,
-        &Priorities,
-    );
-    let second = hear(
-        &mut book,
-        first.last,
-        Message::request(3, 8, 2),
-        stations,
-        &Priorities,
-    );
+    let first = heard(&mut book, 0, Message::request(2, 7, 1))?;
+    let second = heard(&mut book, first.last, Message::request(3, 8, 2))?;
     assert!(rt; second.last == 2);
     assert!(rt; book[0].end.number() == 4);
     assert!(rt; book[0].mark.number() == 1);
@@ -135,25 +81,12 @@ fn higher_rank(rt: HostRuntime) -> Result<(), Fail> {
 // A full book: REJECT alone, and the standing grant still stands.
 #[test]
 fn full_book(rt: HostRuntime) -> Result<(), Fail> {
-    let stations = Stations::new(3).ok_or(3u8)?;
     let mut book = [blank(); 1];
-    let first = hear(
-        &mut book,
-        0,
-        Message::request(2, 7, 1),
-        stations,
-        &Priorities,
-    );
-    let second = hear(
-        &mut book,
-        first.last,
-        Message::request(3, 8, 2),
-        stations,
-        &Priorities,
-    );
+    let first = heard(&mut book, 0, Message::request(2, 7, 1))?;
+    let second = heard(&mut book, first.last, Message::request(3, 8, 2))?;
     assert!(rt; second.last == 1);
-    assert!(rt; outcome(&second) == 2);
-    assert!(rt; says(&second, 0, 2, 3, 0));
+    assert!(rt; second.outcome == AnchorOutcome::Full);
+    assert!(rt; says(&second, 0, StationKind::Reject, 3, 0));
     assert!(rt; count_said(&second) == 1);
     assert!(rt; book[0].end.number() == 0);
     Ok(())
@@ -162,26 +95,13 @@ fn full_book(rt: HostRuntime) -> Result<(), Fail> {
 // A RELEASE INDICATION that comes late is answered with what stands.
 #[test]
 fn late_indication(rt: HostRuntime) -> Result<(), Fail> {
-    let stations = Stations::new(3).ok_or(3u8)?;
     let mut book = [blank(); 3];
-    let first = hear(
-        &mut book,
-        0,
-        Message::request(2, 7, 1),
-        stations,
-        &Priorities,
-    );
-    let second = hear(
-        &mut book,
-        first.last,
-        Message::request(3, 8, 2),
-        stations,
-        &Priorities,
-    );
+    let first = heard(&mut book, 0, Message::request(2, 7, 1))?;
+    let second = heard(&mut book, first.last, Message::request(3, 8, 2))?;
     let late = Message::release_indication(2, 1, Cause::CallControl);
-    let third = hear(&mut book, second.last, late, stations, &Priorities);
+    let third = heard(&mut book, second.last, late)?;
     assert!(rt; third.last == 2);
-    assert!(rt; says(&third, 0, 3, 2, 2));
+    assert!(rt; says(&third, 0, StationKind::Seized, 2, 2));
     assert!(rt; count_said(&third) == 1);
     assert!(rt; book[1].end.number() == 0);
     Ok(())
@@ -190,19 +110,12 @@ fn late_indication(rt: HostRuntime) -> Result<(), Fail> {
 // A grant that ends by a cause; the places past the last grant are left as found.
 #[test]
 fn past_the_last(rt: HostRuntime) -> Result<(), Fail> {
-    let stations = Stations::new(3).ok_or(3u8)?;
     let mut book = [blank(); 3];
-    let first = hear(
-        &mut book,
-        0,
-        Message::request(2, 7, 1),
-        stations,
-        &Priorities,
-    );
+    let first = heard(&mut book, 0, Message::request(2, 7, 1))?;
     let done = Message::release_indication(2, 1, Cause::RadioFailure);
-    let second = hear(&mut book, first.last, done, stations, &Priorities);
-    assert!(rt; says(&second, 0, 4, 1, 1));
-    assert!(rt; says(&second, 2, 4, 3, 1));
+    let second = heard(&mut book, first.last, done)?;
+    assert!(rt; says(&second, 0, StationKind::ReleaseCommand, 1, 1));
+    assert!(rt; says(&second, 2, StationKind::ReleaseCommand, 3, 1));
     assert!(rt; book[0].end.number() == 3);
     assert!(rt; book[1].station == 9 && book[1].identity == 9);
     assert!(rt; book[2].station == 9 && book[2].identity == 9);

@@ -1,4 +1,5 @@
-// The calls of a list, each by its name: the time, then the party's number.
+// The calls of a list, each by its name: the time, then the party's number. Ten functions, since a variant's fields have names and a list of so
+// many calls reads by these.
 use call::Call;
 
 pub(crate) fn ask(time: u64, mobile: u64, reference: u16, rank: u64) -> Call {

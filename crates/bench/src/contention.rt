@@ -3,8 +3,7 @@ use super::calls::{
     anchor_hears, ask, finish, mobile_hears, release, station_hears_air, station_hears_wire,
     station_timer,
 };
-use super::rows::no_entry;
-use super::stage::play_one_cell;
+use super::stage::play;
 use call::Call;
 use carriers::{Fade, Queue};
 use ether::Ether;
@@ -18,8 +17,7 @@ pub(crate) fn repeated_acknowledge(rt: &HostRuntime) -> anyhow::Result<()> {
     marks[5] = 1;
     let mut air = Ether::new(rt.alloc())?;
     let mut wire = Fade::new(Queue::new(rt.alloc())?, marks);
-    let mut book = [no_entry(); 4];
-    play_one_cell(rt, &mut book, &mut air, &mut wire, &equal_calls())?;
+    play::<1, 4, _, _>(rt, &mut air, &mut wire, &equal_calls())?;
     Ok(())
 }
 
@@ -62,8 +60,7 @@ pub(crate) fn another_rank(rt: &HostRuntime) -> anyhow::Result<()> {
     rt.println("A GRANT of the same reference and another rank")?;
     let mut air = Ether::new(rt.alloc())?;
     let mut wire = Queue::new(rt.alloc())?;
-    let mut book = [no_entry(); 4];
-    play_one_cell(rt, &mut book, &mut air, &mut wire, &unequal_calls())?;
+    play::<1, 4, _, _>(rt, &mut air, &mut wire, &unequal_calls())?;
     Ok(())
 }
 

@@ -1,24 +1,27 @@
 // Tables that their owner lends in another length, with rows swapped, and with a clock off its grid.
-ghost use Rattle.std.specs.Prelude.{◌≤◌, length};
+ghost use Rattle.std.specs.Prelude.{◌≤◌};
 
 use super::calls;
+use super::given::{pair, settings};
 use super::lines::{print_answers, print_opening};
-use super::rows::{no_answer, no_entry, no_mobile, no_station, pair, settings};
 use anchor::Entry;
-use call::{Answer, Call, GroupCall};
+use call::{Answer, Call, CallSetup, GroupCall};
 use carriers::Queue;
 use dispatch::LentTables;
-use engine::{ask, mobile_hears, open, play, release, station_hears_wire};
+use engine::{OngoingCall, open};
 use ether::Ether;
 use mobile::Mobile;
 use schemes::Priorities;
 use station::{ClockRow, Station};
 use std::io;
 
-// An ongoing group call with its carriers.
+// What the owner of a group call has: its record, the tables, and the carriers.
 #[derive(Drop)]
-struct OngoingCall {
+struct Owner {
     group: GroupCall,
+    mobiles: [Mobile; 2],
+    stations: [Station; 2],
+    book: [Entry; 4],
     air: Ether,
     wire: Queue,
 }
@@ -28,149 +31,120 @@ pub(crate) fn damaged_tables(rt: &HostRuntime) -> anyhow::Result<()> {
     rt.println("Tables of another length")?;
     let air = Ether::new(rt.alloc())?;
     let wire = Queue::new(rt.alloc())?;
-    let mut mobiles = [no_mobile(); 2];
-    let mut stations = [no_station(); 2];
-    let mut book = [no_entry(); 4];
+    let mut mobiles = [Mobile::default(); 2];
+    let mut stations = [Station::default(); 2];
+    let mut book = [Entry::default(); 4];
     let mut tables = LentTables {
         mobiles: &mut mobiles,
         stations: &mut stations,
         book: &mut book,
     };
-    let opened = open(&settings(), &pair(2), &mut tables, &air, &wire);
+    let setup = CallSetup {
+        settings: settings(),
+        subscribers: &pair(2),
+    };
+    let opened = open(&setup, &mut tables, &air, &wire);
     print_opening(rt, &opened)?;
     if let Ok(group) = opened {
-        let mut ongoing = OngoingCall { group, air, wire };
-        free_the_floor(rt, &mut ongoing, &mut tables)?;
-        lend_less(rt, &mut ongoing, &mut mobiles, &mut stations, &mut book)?;
-        swap_rows(rt, &mut ongoing, &mut mobiles, &mut stations, &mut book)?;
-        break_clocks(rt, &mut ongoing, &mut mobiles, &mut stations, &mut book)?;
+        let mut owner = Owner {
+            group,
+            mobiles,
+            stations,
+            book,
+            air,
+            wire,
+        };
+        free_the_floor(rt, &mut owner)?;
+        lend_less(rt, &mut owner)?;
+        swap_rows(rt, &mut owner)?;
+        break_clocks(rt, &mut owner)?;
     }
     Ok(())
 }
 
-fn free_the_floor(
-    rt: &HostRuntime,
-    ongoing: &mut OngoingCall,
-    tables: &mut LentTables<'_>,
-) -> io::Result<()> {
-    let group = &mut ongoing.group;
-    let air = &mut ongoing.air;
-    let wire = &mut ongoing.wire;
+fn free_the_floor(rt: &HostRuntime, owner: &mut Owner) -> io::Result<()> {
+    let mut ongoing = OngoingCall {
+        group: &mut owner.group,
+        mobiles: &mut owner.mobiles,
+        stations: &mut owner.stations,
+        book: &mut owner.book,
+        scheme: &Priorities,
+        air: &mut owner.air,
+        wire: &mut owner.wire,
+    };
     let answers = [
-        release(group, tables, &Priorities, air, wire, 0),
-        station_hears_wire(group, tables, &Priorities, air, wire, 0, 1),
-        mobile_hears(group, tables, &Priorities, air, wire, 10, 1),
+        ongoing.release(0),
+        ongoing.station_hears_wire(0, 1),
+        ongoing.mobile_hears(10, 1),
     ];
     print_answers(rt, 1, &answers)
 }
 
 // One row fewer of stations, of mobiles, and of the book.
-fn lend_less(
-    rt: &HostRuntime,
-    ongoing: &mut OngoingCall,
-    mobiles: &mut [Mobile],
-    stations: &mut [Station],
-    book: &mut [Entry],
-) -> io::Result<()>
-    requires { (1 ≤ length mobiles.old) × ((1 ≤ length stations.old) × (3 ≤ length book.old)) }
-{
+fn lend_less(rt: &HostRuntime, owner: &mut Owner) -> io::Result<()> {
     let answers = [
-        ask_on(ongoing, mobiles, &mut stations[0..1], book),
-        ask_on(ongoing, &mut mobiles[0..1], stations, book),
-        ask_on(ongoing, mobiles, stations, &mut book[0..3]),
+        ask_on(owner, 2, 1, 4),
+        ask_on(owner, 1, 2, 4),
+        ask_on(owner, 2, 2, 3),
     ];
     print_answers(rt, 4, &answers)
 }
 
-fn ask_on(
-    ongoing: &mut OngoingCall,
-    mobiles: &mut [Mobile],
-    stations: &mut [Station],
-    book: &mut [Entry],
-) -> Answer {
-    let mut tables = LentTables {
-        mobiles,
-        stations,
-        book,
+// With so many rows of each table.
+fn ask_on(owner: &mut Owner, mobiles: usize, stations: usize, places: usize) -> Answer
+    requires { (mobiles ≤ 2) × ((stations ≤ 2) × (places ≤ 4)) }
+{
+    let (rows, cells, book) = (
+        &mut owner.mobiles[..],
+        &mut owner.stations[..],
+        &mut owner.book[..],
+    );
+    let mut ongoing = OngoingCall {
+        group: &mut owner.group,
+        mobiles: &mut rows[..mobiles],
+        stations: &mut cells[..stations],
+        book: &mut book[..places],
+        scheme: &Priorities,
+        air: &mut owner.air,
+        wire: &mut owner.wire,
     };
-    let air = &mut ongoing.air;
-    let wire = &mut ongoing.wire;
-    ask(
-        &mut ongoing.group,
-        &mut tables,
-        &Priorities,
-        air,
-        wire,
-        20,
-        1,
-        33,
-        0,
-    )
+    ongoing.ask(20, 1, 33, 0)
 }
 
 // Mobile 1 is 7002 in cell 2 from here on, mobile 2 is 7001 in cell 1.
-fn swap_rows(
-    rt: &HostRuntime,
-    ongoing: &mut OngoingCall,
-    mobiles: &mut [Mobile],
-    stations: &mut [Station],
-    book: &mut [Entry],
-) -> io::Result<()>
-    requires { 2 ≤ length mobiles.old }
-{
+fn swap_rows(rt: &HostRuntime, owner: &mut Owner) -> io::Result<()> {
     rt.println("Two mobiles' rows swapped")?;
-    mobiles.swap(0, 1);
-    go_on(rt, ongoing, mobiles, stations, book, 7, &swapped_calls())
+    owner.mobiles.swap(0, 1);
+    go_on(rt, owner, 7, &swapped_calls())
 }
 
 // Station 2 is Shut, and its clock is not looked at. Station 1 is Free: its clock goes from 0, with a notice due at 200.
-fn break_clocks(
-    rt: &HostRuntime,
-    ongoing: &mut OngoingCall,
-    mobiles: &mut [Mobile],
-    stations: &mut [Station],
-    book: &mut [Entry],
-) -> io::Result<()>
-    requires { 2 ≤ length stations.old }
-{
+fn break_clocks(rt: &HostRuntime, owner: &mut Owner) -> io::Result<()> {
     rt.println("The clock of a Shut station off its grid")?;
-    stations[1].clock = ClockRow { start: 9, due: 3 };
-    go_on(rt, ongoing, mobiles, stations, book, 10, &shut_calls())?;
+    owner.stations[1].clock = ClockRow { start: 9, due: 3 };
+    go_on(rt, owner, 10, &shut_calls())?;
     rt.println("The clock of a Free station off its grid")?;
-    let sound = stations[0].clock;
-    stations[0].clock = ClockRow { start: 0, due: 201 };
-    go_on(rt, ongoing, mobiles, stations, book, 12, &refused_calls())?;
+    let sound = owner.stations[0].clock;
+    owner.stations[0].clock = ClockRow { start: 0, due: 201 };
+    go_on(rt, owner, 12, &refused_calls())?;
     rt.println("The clock put right")?;
-    stations[0].clock = sound;
-    go_on(rt, ongoing, mobiles, stations, book, 22, &repaired_calls())
+    owner.stations[0].clock = sound;
+    go_on(rt, owner, 22, &repaired_calls())
 }
 
 // Plays the list, and prints its lines from the number `first` on.
-fn go_on(
-    rt: &HostRuntime,
-    ongoing: &mut OngoingCall,
-    mobiles: &mut [Mobile],
-    stations: &mut [Station],
-    book: &mut [Entry],
-    first: u64,
-    calls: &[Call],
-) -> io::Result<()> {
-    let mut tables = LentTables {
-        mobiles,
-        stations,
-        book,
+fn go_on(rt: &HostRuntime, owner: &mut Owner, first: u64, calls: &[Call]) -> io::Result<()> {
+    let mut ongoing = OngoingCall {
+        group: &mut owner.group,
+        mobiles: &mut owner.mobiles,
+        stations: &mut owner.stations,
+        book: &mut owner.book,
+        scheme: &Priorities,
+        air: &mut owner.air,
+        wire: &mut owner.wire,
     };
-    let mut answers = [no_answer(); 10];
-    let played = play(
-        &mut ongoing.group,
-        &mut tables,
-        &Priorities,
-        &mut ongoing.air,
-        &mut ongoing.wire,
-        calls,
-        &mut answers,
-    );
-    if played.is_err() || calls.len() > 10 {
+    let mut answers = [Answer::default(); 10];
+    if ongoing.play(calls, &mut answers).is_err() || calls.len() > 10 {
         return Ok(());
     }
     print_answers(rt, first, &answers[0..calls.len()])

@@ -3,8 +3,7 @@ use super::calls::{
     anchor_hears, ask, finish, mobile_hears, mobile_timer, release, station_hears_air,
     station_hears_wire, station_timer,
 };
-use super::rows::no_entry;
-use super::stage::play_one_cell;
+use super::stage::play;
 use call::Call;
 use carriers::Queue;
 use ether::Ether;
@@ -14,8 +13,7 @@ pub(crate) fn full_book(rt: &HostRuntime) -> anyhow::Result<()> {
     rt.println("A book of one place that fills")?;
     let mut air = Ether::new(rt.alloc())?;
     let mut wire = Queue::new(rt.alloc())?;
-    let mut book = [no_entry()];
-    play_one_cell(rt, &mut book, &mut air, &mut wire, &full_calls())?;
+    play::<1, 1, _, _>(rt, &mut air, &mut wire, &full_calls())?;
     Ok(())
 }
 

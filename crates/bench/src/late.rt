@@ -1,21 +1,35 @@
 // A long run of timer calls on one station, by single calls of the engine.
+use super::given::{settings, subscriber};
 use super::lines::print_answer;
-use super::rows::{no_answer, no_entry, no_mobile, no_station, settings, subscriber};
+use anchor::Entry;
 use anyhow::anyhow;
-use call::{Answer, GroupCall, Outcome};
+use call::{Answer, CallSetup, Outcome};
 use carriers::{Carrier, Queue};
 use dispatch::LentTables;
-use engine::{open, release, station_hears_wire, station_timer};
+use engine::{OngoingCall, open};
 use ether::Ether;
-use schemes::Priorities;
+use mobile::Mobile;
+use schemes::{Priorities, RankScheme};
+use station::Station;
 use std::io;
 
 // How the timer calls were answered.
-#[derive(Clone, Copy)]
+#[derive(Clone, Copy, Default)]
 struct Tally {
     said: u32,
     idle: u32,
     last: Answer,
+}
+
+impl Tally {
+    fn count(&mut self, answer: Answer) {
+        match answer.outcome {
+            Outcome::Acted(_) => self.said = self.said.saturating_add(1),
+            Outcome::Idle => self.idle = self.idle.saturating_add(1),
+            _ => {}
+        }
+        self.last = answer;
+    }
 }
 
 // The station enters Free at 0. Its 200 timer calls come ever later: the first 2 ms after that, each next one 2 ms more after the one before.
@@ -23,68 +37,44 @@ pub(crate) fn late_clock(rt: &HostRuntime) -> anyhow::Result<()> {
     rt.println("A long run with a late clock")?;
     let mut air = Ether::new(rt.alloc())?;
     let mut wire = Queue::new(rt.alloc())?;
+    let mut mobiles = [Mobile::default()];
+    let mut stations = [Station::default()];
+    let mut book = [Entry::default()];
     let mut tables = LentTables {
-        mobiles: &mut [no_mobile()],
-        stations: &mut [no_station()],
-        book: &mut [no_entry()],
+        mobiles: &mut mobiles,
+        stations: &mut stations,
+        book: &mut book,
     };
-    let Ok(mut group) = open(
-        &settings(),
-        &[subscriber(7001, 1)],
-        &mut tables,
-        &air,
-        &wire,
-    ) else {
-        return Err(anyhow!("not opened"));
+    let setup = CallSetup {
+        settings: settings(),
+        subscribers: &[subscriber(7001, 1)],
     };
-    let _ = release(&mut group, &mut tables, &Priorities, &mut air, &mut wire, 0);
-    let _ = station_hears_wire(
-        &mut group,
-        &mut tables,
-        &Priorities,
-        &mut air,
-        &mut wire,
-        0,
-        1,
-    );
-    let tally = run(&mut group, &mut tables, &mut air, &mut wire);
-    print_tally(rt, tally)?;
+    let mut group = open(&setup, &mut tables, &air, &wire).map_err(|_| anyhow!("not opened"))?;
+    let mut ongoing = OngoingCall {
+        group: &mut group,
+        mobiles: &mut mobiles,
+        stations: &mut stations,
+        book: &mut book,
+        scheme: &Priorities,
+        air: &mut air,
+        wire: &mut wire,
+    };
+    ongoing.release(0);
+    ongoing.station_hears_wire(0, 1);
+    print_tally(rt, run(&mut ongoing))?;
     Ok(())
 }
 
-fn run<A: Carrier, W: Carrier>(
-    group: &mut GroupCall,
-    tables: &mut LentTables<'_>,
-    air: &mut A,
-    wire: &mut W,
+fn run<S: RankScheme, A: Carrier, W: Carrier>(
+    ongoing: &mut OngoingCall<'_, '_, '_, S, A, W>,
 ) -> Tally {
     let mut time: u64 = 0;
-    let mut tally = Tally {
-        said: 0,
-        idle: 0,
-        last: no_answer(),
-    };
+    let mut tally = Tally::default();
     for turn in 1..=200u64 {
         time = time.saturating_add(2 * turn);
-        let answer = station_timer(group, tables, &Priorities, air, wire, time, 1);
-        tally = counted(tally, answer);
+        tally.count(ongoing.station_timer(time, 1));
     }
     tally
-}
-
-fn counted(tally: Tally, answer: Answer) -> Tally {
-    let mut said = tally.said;
-    let mut idle = tally.idle;
-    match answer.outcome {
-        Outcome::Acted(_) => said = said.saturating_add(1),
-        Outcome::Idle => idle = idle.saturating_add(1),
-        _ => {}
-    }
-    Tally {
-        said,
-        idle,
-        last: answer,
-    }
 }
 
 // The last timer call is call 202, after the release and the hearing.

@@ -12,10 +12,8 @@ pub(crate) fn print_answer(rt: &HostRuntime, number: u64, answer: Answer) -> io:
 
 // A line for each of these answers, numbered on from `first`.
 pub(crate) fn print_answers(rt: &HostRuntime, first: u64, answers: &[Answer]) -> io::Result<()> {
-    let mut number = first;
-    for answer in answers {
+    for (number, answer) in (first..).zip(answers) {
         print_answer(rt, number, *answer)?;
-        number = number.saturating_add(1);
     }
     Ok(())
 }
@@ -29,10 +27,5 @@ pub(crate) fn print_opening(
         Ok(_) => Outcome::Acted(0),
         Err(refusal) => Outcome::Refused(*refusal),
     };
-    let answer = Answer {
-        outcome,
-        kept: 0,
-        lost: 0,
-    };
-    print_answer(rt, 0, answer)
+    print_answer(rt, 0, Answer::silent(outcome))
 }

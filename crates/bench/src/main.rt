@@ -5,10 +5,10 @@ mod calls;
 mod contention;
 mod damage;
 mod full;
+mod given;
 mod late;
 mod lines;
 mod replays;
-mod rows;
 mod stage;
 mod talks;
 

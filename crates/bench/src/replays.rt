@@ -3,8 +3,7 @@ use super::calls::{
     anchor_hears, ask, finish, mobile_hears, release, station_hears_air, station_hears_wire,
     station_timer,
 };
-use super::rows::no_entry;
-use super::stage::play_one_cell;
+use super::stage::play;
 use call::Call;
 use carriers::Queue;
 use script::Script;
@@ -19,8 +18,7 @@ pub(crate) fn old_messages(rt: &HostRuntime) -> anyhow::Result<()> {
     rt.println("Old messages heard again")?;
     let mut air = Script::new(rt.alloc(), PICKS.to_vec(rt.alloc())?);
     let mut wire = Queue::new(rt.alloc())?;
-    let mut book = [no_entry(); 4];
-    play_one_cell(rt, &mut book, &mut air, &mut wire, &old_calls())?;
+    play::<1, 4, _, _>(rt, &mut air, &mut wire, &old_calls())?;
     Ok(())
 }
 

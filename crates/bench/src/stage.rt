@@ -1,57 +1,41 @@
 // A list of calls played on fresh tables with the talker priorities, and its lines.
+ghost use Rattle.std.specs.Prelude.{◌≤◌};
+
+use super::given::{pair, settings};
 use super::lines::{print_answers, print_opening};
-use super::rows::{no_answer, no_entry, no_mobile, no_station, pair, settings};
 use anchor::Entry;
-use call::{Call, Subscriber};
+use call::{Answer, Call, CallSetup};
 use carriers::Carrier;
 use dispatch::LentTables;
 use engine::conduct;
+use mobile::Mobile;
 use schemes::Priorities;
 use station::Station;
 use std::io;
 
-// Two stations, a mobile in the cell of each, and a book of four places.
-pub(crate) fn play_two_cells<A: Carrier, W: Carrier>(
+// So many stations, mobile 1 in the cell of the first and mobile 2 in that of the last, and a book of so many places.
+pub(crate) fn play<const STATIONS: usize, const PLACES: usize, A: Carrier, W: Carrier>(
     rt: &HostRuntime,
     air: &mut A,
     wire: &mut W,
     calls: &[Call],
-) -> io::Result<()> {
-    let mut stations = [no_station(); 2];
-    let mut book = [no_entry(); 4];
-    play_all(rt, &pair(2), &mut stations, &mut book, air, wire, calls)
-}
-
-// One station with both mobiles in its cell, and this book.
-pub(crate) fn play_one_cell<A: Carrier, W: Carrier>(
-    rt: &HostRuntime,
-    book: &mut [Entry],
-    air: &mut A,
-    wire: &mut W,
-    calls: &[Call],
-) -> io::Result<()> {
-    let mut stations = [no_station()];
-    play_all(rt, &pair(1), &mut stations, book, air, wire, calls)
-}
-
-fn play_all<A: Carrier, W: Carrier>(
-    rt: &HostRuntime,
-    subscribers: &[Subscriber],
-    stations: &mut [Station],
-    book: &mut [Entry],
-    air: &mut A,
-    wire: &mut W,
-    calls: &[Call],
-) -> io::Result<()> {
-    let mut answers = [no_answer(); 40];
+) -> io::Result<()>
+    requires { (STATIONS ≤ 8) × (PLACES ≤ 4096) }
+{
+    let mut answers = [Answer::default(); 40];
+    let mut stations = [Station::default(); STATIONS];
+    let mut book = [Entry::default(); PLACES];
     let mut tables = LentTables {
-        mobiles: &mut [no_mobile(); 2],
-        stations,
-        book,
+        mobiles: &mut [Mobile::default(); 2],
+        stations: &mut stations,
+        book: &mut book,
+    };
+    let setup = CallSetup {
+        settings: settings(),
+        subscribers: &pair(STATIONS as u64),
     };
     let opened = conduct(
-        &settings(),
-        subscribers,
+        &setup,
         &mut tables,
         &Priorities,
         air,

@@ -2,7 +2,7 @@
 use super::calls::{
     anchor_hears, ask, finish, mobile_hears, release, station_hears_air, station_hears_wire,
 };
-use super::stage::play_two_cells;
+use super::stage::play;
 use call::Call;
 use carriers::Queue;
 use ether::Ether;
@@ -18,19 +18,19 @@ pub(crate) fn worked_run(rt: &HostRuntime) -> anyhow::Result<()> {
         station_hears_air(30, 1),
         anchor_hears(40),
     ];
-    play(rt, &calls)
+    play_two_cells(rt, &calls)
 }
 
 // Mobile 1 talks; mobile 2 asks with the emergency rank and takes the floor.
 pub(crate) fn pre_emption(rt: &HostRuntime) -> anyhow::Result<()> {
     rt.println("A pre-emption")?;
-    play(rt, &emergency_calls())
+    play_two_cells(rt, &emergency_calls())
 }
 
-fn play(rt: &HostRuntime, calls: &[Call]) -> anyhow::Result<()> {
+fn play_two_cells(rt: &HostRuntime, calls: &[Call]) -> anyhow::Result<()> {
     let mut air = Ether::new(rt.alloc())?;
     let mut wire = Queue::new(rt.alloc())?;
-    play_two_cells(rt, &mut air, &mut wire, calls)?;
+    play::<2, 4, _, _>(rt, &mut air, &mut wire, calls)?;
     Ok(())
 }
 

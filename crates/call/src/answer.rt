@@ -1,35 +1,38 @@
 // What a call answers.
+ghost use Rattle.std.specs.Prelude.{◌≡◌};
+
 use mobile::{Attempt, Rejection};
 
 // Why a call is refused. A refused call changes nothing.
-#[derive(Clone, Copy)]
+#[derive(Clone, Copy, PartialEq, Eq, Debug)]
 pub enum Refusal {
     // outside its limits, or after the opening of another length or with a broken notice clock
-    Table,
+    Table = 1,
     // an identity out of range or twice, or a mobile's station does not exist
-    Identity,
+    Identity = 2,
     // a period, timer, level or district outside its limits
-    Setting,
+    Setting = 3,
     // a carrier is not quiet at the opening
-    NotQuiet,
+    NotQuiet = 4,
     // no such mobile or station
-    NoParty,
+    NoParty = 5,
     // above 2^40, or before that of the last accepted call
-    Time,
+    Time = 6,
     // not below the count of ranks, or not allowed to the mobile
-    Rank,
+    Rank = 7,
     // ask when not listening, finish when not talking, radio loss when not Held, release when not free
-    State,
+    State = 8,
     // fewer answer places than calls
-    FewPlaces,
+    FewPlaces = 9,
     // a playlist that breaks its form
-    Form,
+    Form = 10,
 }
 
-#[derive(Clone, Copy)]
+#[derive(Clone, Copy, PartialEq, Eq, Debug, Default)]
 pub enum Outcome {
     Refused(Refusal),
     // nothing heard or due
+    #[default]
     Idle,
     // heard and met by no rule
     Ignored,
@@ -48,10 +51,23 @@ pub enum Outcome {
     BookFull,
 }
 
-#[derive(Clone, Copy)]
+#[derive(Clone, Copy, Default)]
 pub struct Answer {
     pub outcome: Outcome,
     // messages that the carriers kept, and lost
     pub kept: u32,
     pub lost: u32,
+}
+
+impl Answer {
+    // Of a call that said nothing.
+    pub fn silent(outcome: Outcome) -> Answer
+        ensures { result ≡ record { outcome = outcome; kept = 0; lost = 0 } }
+    {
+        Answer {
+            outcome,
+            kept: 0,
+            lost: 0,
+        }
+    }
 }

@@ -11,7 +11,7 @@ mod theorems;
 
 pub use answer::{Answer, Outcome, Refusal};
 pub use calls::Call;
-pub use opening::{SettingNumbers, Subscriber};
+pub use opening::{CallSetup, SettingNumbers, Subscriber};
 pub use record::GroupCall;
 pub use settings::Settings;
 pub use theorems::guarantee_holds;

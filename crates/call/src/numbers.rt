@@ -8,21 +8,11 @@ impl Refusal {
     pub fn number(self) -> u8
         ensures { result ≡ refusal_number self }
     {
-        match self {
-            Refusal::Table => 1,
-            Refusal::Identity => 2,
-            Refusal::Setting => 3,
-            Refusal::NotQuiet => 4,
-            Refusal::NoParty => 5,
-            Refusal::Time => 6,
-            Refusal::Rank => 7,
-            Refusal::State => 8,
-            Refusal::FewPlaces => 9,
-            Refusal::Form => 10,
-        }
+        self as u8
     }
 }
 
+// Some outcomes hold a value, so their numbers cannot be those of the variants.
 impl Outcome {
     pub fn number(self) -> u8
         ensures { result ≡ (told self).number }

@@ -1,7 +1,7 @@
 // What an opening is given, with its numbers as a caller brings them.
 
 // The settings' numbers, in milliseconds.
-#[derive(Clone, Copy)]
+#[derive(Clone, Copy, Default)]
 pub struct SettingNumbers {
     pub period: u64,
     pub t3128: u64,
@@ -17,4 +17,11 @@ pub struct Subscriber {
     pub station: u64,
     // the sum of 2^code over the ranks that it may ask for
     pub allowed: u64,
+}
+
+// What a group call is set up with: its settings, and the mobiles that are entered for it.
+#[derive(Clone, Copy)]
+pub struct CallSetup<'a> {
+    pub settings: SettingNumbers,
+    pub subscribers: &'a [Subscriber],
 }

@@ -15,7 +15,7 @@ pub struct GroupCall {
     stations: Stations,
     // how many grants the book can hold
     places: usize,
-    // the number of the last grant, 0 before the first
+    // the number of the last grant, 0 before the first; no Option, since the next grant has this and one
     last: u32,
     // the time of the last accepted call, 0 before the first
     time: Time,

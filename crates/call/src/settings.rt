@@ -4,6 +4,7 @@ ghost use Rattle.call.specs.Settings.{settings_in_limits};
 ghost use Rattle.call.specs.declared.answer.Refusal.TheVariants.{Setting};
 
 use super::answer::Refusal;
+use super::opening::SettingNumbers;
 use mobile::MobileTimers;
 use station::StationTimers;
 use timing::{Period, Timer};
@@ -16,23 +17,17 @@ pub struct Settings {
     pub link: Timer,
 }
 
-impl Settings {
-    // Refused where one of them is outside its limits.
-    pub fn new(period: u64, t3128: u64, t3130: u64, link: u64) -> Result<Settings, Refusal>
-        ensures { MatchResult result (λ s. (s.period.ms ≡ period) × (s.t3128.ms ≡ t3128) × (s.t3130.ms ≡ t3130) × (s.link.ms ≡ link)) (λ refusal. (refusal ≡ Setting) × (settings_in_limits period t3128 t3130 link ≡ false)) }
-    {
-        let Some(period) = Period::new(period) else {
-            return Err(Refusal::Setting);
-        };
-        let Some(t3128) = Timer::new(t3128) else {
-            return Err(Refusal::Setting);
-        };
-        let Some(t3130) = Timer::new(t3130) else {
-            return Err(Refusal::Setting);
-        };
-        let Some(link) = Timer::new(link) else {
-            return Err(Refusal::Setting);
-        };
+// Refused where one of them is outside its limits.
+impl TryFrom<SettingNumbers> for Settings {
+    type Error = Refusal;
+
+    ghost try_from_gives = { λ numbers made. MatchResult made (λ s. (s.period.ms ≡ numbers.period) × (s.t3128.ms ≡ numbers.t3128) × (s.t3130.ms ≡ numbers.t3130) × (s.link.ms ≡ numbers.link)) (λ refusal. (refusal ≡ Setting) × (settings_in_limits numbers.period numbers.t3128 numbers.t3130 numbers.link ≡ false)) };
+
+    fn try_from(numbers: SettingNumbers) -> Result<Settings, Refusal> {
+        let period = Period::new(numbers.period).ok_or(Refusal::Setting)?;
+        let t3128 = Timer::new(numbers.t3128).ok_or(Refusal::Setting)?;
+        let t3130 = Timer::new(numbers.t3130).ok_or(Refusal::Setting)?;
+        let link = Timer::new(numbers.link).ok_or(Refusal::Setting)?;
         Ok(Settings {
             period,
             t3128,
@@ -40,7 +35,9 @@ impl Settings {
             link,
         })
     }
+}
 
+impl Settings {
     pub fn mobile_timers(&self) -> MobileTimers
         ensures { (result.t3128 ≡ self.now.t3128) × (result.t3130 ≡ self.now.t3130) × (result.link ≡ self.now.link) }
     {

@@ -1,9 +1,10 @@
 -- What stands on a list that grew at its end, lost its first that passes, or was taken from.
 -- Assumes nothing.
 use Rattle.std.specs.Prelude.{◌≡◌, Bool, true, false, cond, ◌⊎◌, List, [], ◌∷◌, ◌++◌, map, IfSome, Some, None, Option, refl}
+use Rattle.std.specs.List.{find}
 use Rattle.std.proofs.Common.{inl, inr, ⊎_elim}
 use Rattle.messages.specs.declared.message.Message.{Message}
-use Rattle.carriers.specs.Firsts.{first, without_first}
+use Rattle.carriers.specs.Firsts.{without_first}
 use Rattle.carriers.specs.Meaning.{On, Within, Joined}
 
 pub on_last : (xs : List Message) (m : Message) → On m (xs ++ m ∷ [])
@@ -28,9 +29,9 @@ within_without_first p (x ∷ xs) m h = at (p x) (within_without_first p xs m) h
     at false below (inr o) = inr (below o)
 
 -- what is found among things that hold messages is on the list of their messages, and passes
-pub first_on : {X : Type 0} (f : X → Message) (p : X → Bool) (xs : List X) → IfSome (first p xs) (λ x. On (f x) (map f xs) × (p x ≡ true))
-first_on f p [] = tt
-first_on {X} f p (x ∷ xs) = at (p x) refl (first_on f p xs)
+pub found_on : {X : Type 0} (f : X → Message) (p : X → Bool) (xs : List X) → IfSome (find p xs) (λ x. On (f x) (map f xs) × (p x ≡ true))
+found_on f p [] = tt
+found_on {X} f p (x ∷ xs) = at (p x) refl (found_on f p xs)
   where
     Here : Option X → Type 0
     Here o = IfSome o (λ y. On (f y) (map f (x ∷ xs)) × (p y ≡ true))
@@ -39,6 +40,6 @@ first_on {X} f p (x ∷ xs) = at (p x) refl (first_on f p xs)
     further None h = tt
     further (Some y) h = (inr h.0, h.1)
 
-    at : (b : Bool) → p x ≡ b → IfSome (first p xs) (λ y. On (f y) (map f xs) × (p y ≡ true)) → Here (cond b (Some x) (first p xs))
+    at : (b : Bool) → p x ≡ b → IfSome (find p xs) (λ y. On (f y) (map f xs) × (p y ≡ true)) → Here (cond b (Some x) (find p xs))
     at true is below = (inl refl, is)
-    at false is below = further (first p xs) below
+    at false is below = further (find p xs) below

@@ -1,6 +1,7 @@
 // The Fade, a carrier over any other, for lost and repeated messages. It means what the carrier under it means.
 ghost use Rattle.std.specs.Prelude.{◌<◌};
 
+mod mark;
 mod marks;
 
 // Message number n, from 0, uses mark n modulo 64: 1 loses it, 2 says it twice, any other lets it pass.

@@ -1,4 +1,3 @@
 mod Clocks
 mod Deliveries
 mod Hearings
-mod Parties

@@ -1,12 +1,12 @@
 // What is checked before a call is carried out, in the order of the refusals' numbers.
-ghost use Rattle.std.specs.Prelude.{◌≡◌, [], IfNone};
+ghost use Rattle.std.specs.Prelude.{◌≡◌, true, false, [], Some, None, MatchOption, MatchResult};
 ghost use Rattle.call.specs.Records.{frame_of, tables_of};
 ghost use Rattle.call.specs.World.{every_clock_sound, tables_good, is_there, party_there, time_of, time_good, rank_good, state_good, refusal_of};
 ghost use Rattle.mobile.specs.Steps.{mobile_listens, mobile_talks};
 ghost use Rattle.dispatch.specs.Checks.{PartyIn, Admitted};
 ghost use Rattle.dispatch.specs.Lent.{lent};
 
-use super::rows::{mobile_row, station_row};
+use super::rows::row;
 use super::tables::LentTables;
 use anchor::is_free;
 use call::{Call, GroupCall, Refusal};
@@ -14,32 +14,29 @@ use mobile::{Mobile, State};
 use station::Station;
 use timing::{Period, Time};
 
-// The first check that fails, if one does.
-pub(crate) fn refusal(
+// The time of the call, or the refusal of the first check that fails.
+pub(crate) fn admit(
     group: &GroupCall,
     tables: &LentTables<'_>,
     ranks: u8,
     call: &Call,
-) -> Option<Refusal>
-    ensures refused { result ≡ refusal_of (frame_of group.now) ranks (lent group.now tables.now) call.now }
-    ensures accepted { IfNone result (Admitted group.now ranks tables.now call.now) }
+) -> Result<Time, Refusal>
+    ensures { MatchResult result (λ time. (time.ms ≡ time_of call.now) × (refusal_of (frame_of group.now) ranks (lent group.now tables.now) call.now ≡ None) × Admitted group.now ranks tables.now call.now) (λ refusal. refusal_of (frame_of group.now) ranks (lent group.now tables.now) call.now ≡ Some refusal) }
 {
     if !tables_good(group, tables) {
-        return Some(Refusal::Table);
+        return Err(Refusal::Table);
     }
     if !party_there(group, call) {
-        return Some(Refusal::NoParty);
+        return Err(Refusal::NoParty);
     }
-    if !time_good(group, call) {
-        return Some(Refusal::Time);
-    }
+    let time = admitted_time(group, call).ok_or(Refusal::Time)?;
     if !rank_good(tables, ranks, call) {
-        return Some(Refusal::Rank);
+        return Err(Refusal::Rank);
     }
     if !state_good(group, tables, call) {
-        return Some(Refusal::State);
+        return Err(Refusal::State);
     }
-    None
+    Ok(time)
 }
 
 fn tables_good(group: &GroupCall, tables: &LentTables<'_>) -> bool
@@ -54,12 +51,9 @@ fn tables_good(group: &GroupCall, tables: &LentTables<'_>) -> bool
 fn clocks_sound(period: Period, stations: &[Station]) -> bool
     ensures { result ≡ every_clock_sound period.ms stations.now }
 {
-    for station in stations {
-        if !station.has_sound_clock(period) {
-            return false;
-        }
-    }
-    true
+    stations
+        .iter()
+        .all(|station| station.has_sound_clock(period))
 }
 
 fn party_there(group: &GroupCall, call: &Call) -> bool
@@ -86,14 +80,11 @@ fn is_there(number: u64, count: u64) -> bool
     1 <= number && number <= count
 }
 
-// Of the tables it reads the time of the last accepted call alone.
-fn time_good(group: &GroupCall, call: &Call) -> bool
-    ensures { result ≡ time_good (tables_of group.now [] [] []) call.now }
+// The time of the call, where it is within its limits and not before that of the last accepted call. Of the tables it reads that time alone.
+fn admitted_time(group: &GroupCall, call: &Call) -> Option<Time>
+    ensures { MatchOption result (time_good (tables_of group.now [] [] []) call.now ≡ false) (λ time. (time.ms ≡ time_of call.now) × (time_good (tables_of group.now [] [] []) call.now ≡ true)) }
 {
-    match Time::new(time_of(call)) {
-        Some(time) => group.time().ms() <= time.ms(),
-        None => false,
-    }
+    Time::new(time_of(call)).filter(|time| group.time().ms() <= time.ms())
 }
 
 fn time_of(call: &Call) -> u64
@@ -119,7 +110,7 @@ fn rank_good(tables: &LentTables<'_>, ranks: u8, call: &Call) -> bool
 {
     match *call {
         Call::Ask { mobile, rank, .. } => {
-            rank < u64::from(ranks) && mobile_row(tables, mobile).may_ask(rank as u8)
+            rank < u64::from(ranks) && row(tables.mobiles, mobile).may_ask(rank as u8)
         }
         Call::Finish { .. }
         | Call::MobileHears { .. }
@@ -138,9 +129,9 @@ fn state_good(group: &GroupCall, tables: &LentTables<'_>, call: &Call) -> bool
     ensures { result ≡ state_good (lent group.now tables.now) call.now }
 {
     match *call {
-        Call::Ask { mobile, .. } => listens(&mobile_row(tables, mobile)),
-        Call::Finish { mobile, .. } => talks(&mobile_row(tables, mobile)),
-        Call::RadioLoss { station, .. } => station_row(tables, station).is_held(),
+        Call::Ask { mobile, .. } => listens(&row(tables.mobiles, mobile)),
+        Call::Finish { mobile, .. } => talks(&row(tables.mobiles, mobile)),
+        Call::RadioLoss { station, .. } => row(tables.stations, station).is_held(),
         Call::Release { .. } => is_free(tables.book, group.last()),
         Call::MobileHears { .. }
         | Call::MobileTimer { .. }

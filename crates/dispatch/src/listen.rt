@@ -3,7 +3,7 @@ ghost use Rattle.call.specs.Effects.{Hearing, listening};
 ghost use Rattle.dispatch.specs.Checks.{PartyIn};
 ghost use Rattle.dispatch.specs.Lent.{lent};
 
-use super::rows::mobile_row;
+use super::rows::row;
 use super::tables::LentTables;
 use call::{Call, GroupCall};
 use carriers::Carrier;
@@ -21,7 +21,7 @@ pub(crate) fn listen<A: Carrier, W: Carrier>(
 {
     match *call {
         Call::MobileHears { mobile, .. } => {
-            let station = mobile_row(tables, mobile).station;
+            let station = row(tables.mobiles, mobile).station;
             air.hear(cell_address(station), mobile_listener(mobile as u8))
         }
         Call::StationHearsAir { station, .. } => {

@@ -1,7 +1,7 @@
 // One call of a group call, whichever it is: checked, heard, stepped, said.
 ghost use Rattle.dispatch.specs.Worlds.{Made};
 
-use super::checks::refusal;
+use super::checks::admit;
 use super::deliver::deliver;
 use super::listen::listen;
 use super::steps::step;
@@ -10,6 +10,7 @@ use call::{Answer, Call, GroupCall, Outcome};
 use carriers::Carrier;
 use schemes::RankScheme;
 
+// The five borrows are no struct: each part below takes only some of them, and reads the tables while it writes a carrier.
 // Refused by the first check that fails, with nothing changed; else what it heard decides the step, and what is said is counted as kept or lost.
 pub fn make<S: RankScheme, A: Carrier, W: Carrier>(
     group: &mut GroupCall,
@@ -21,15 +22,12 @@ pub fn make<S: RankScheme, A: Carrier, W: Carrier>(
 ) -> Answer
     ensures { Made A.Carrier.says W.Carrier.says A.Carrier.hears W.Carrier.hears (S.RankScheme.above scheme.now) S.RankScheme.count group.old tables.old air.old wire.old call.now result group.new tables.new air.new wire.new }
 {
-    if let Some(refusal) = refusal(group, tables, S::rank_count(), call) {
-        return Answer {
-            outcome: Outcome::Refused(refusal),
-            kept: 0,
-            lost: 0,
-        };
-    }
+    let time = match admit(group, tables, S::rank_count(), call) {
+        Ok(time) => time,
+        Err(refusal) => return Answer::silent(Outcome::Refused(refusal)),
+    };
     let heard = listen(tables, call, air, wire);
-    let step = step(group, tables, scheme, call, heard);
+    let step = step(group, tables, scheme, time, call, heard);
     let delivery = deliver(&step.outbox, air, wire);
     Answer {
         outcome: step.outcome,

@@ -1,22 +1,9 @@
-// The rows of the parties by number, from 1.
-ghost use Rattle.std.specs.Prelude.{◌≡◌, ◌-◌, length, slice_index_or};
-ghost use Rattle.call.specs.World.{no_mobile, no_station};
-ghost use Rattle.dispatch.specs.Checks.{Numbered};
+// The row of a party by its number, from 1.
+ghost use Rattle.std.specs.Prelude.{◌≡◌, ◌-◌, ◌≤◌, length, slice_index_or};
 
-use super::tables::LentTables;
-use mobile::Mobile;
-use station::Station;
-
-pub(crate) fn mobile_row(tables: &LentTables<'_>, mobile: u64) -> Mobile
-    requires { Numbered mobile (length tables.now.mobiles.now) 200 }
-    ensures { result ≡ slice_index_or tables.now.mobiles.now (mobile - 1) no_mobile }
+pub(crate) fn row<T: Copy>(rows: &[T], number: u64) -> T
+    requires { (1 ≤ number) × (number ≤ length rows.now) }
+    ensures { (d : T) → result ≡ slice_index_or rows.now (number - 1) d }
 {
-    tables.mobiles[mobile as usize - 1]
-}
-
-pub(crate) fn station_row(tables: &LentTables<'_>, station: u64) -> Station
-    requires { Numbered station (length tables.now.stations.now) 8 }
-    ensures { result ≡ slice_index_or tables.now.stations.now (station - 1) no_station }
-{
-    tables.stations[station as usize - 1]
+    rows[number as usize - 1]
 }

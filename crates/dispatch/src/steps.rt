@@ -1,7 +1,9 @@
-// The step of the party that a call names, once the call has heard what it hears.
+// The step of the party that a call names, once the call has heard what it hears. A call is an enum with numbers of its own, so each arm has
+// other arguments, and no closure stands for them.
 ghost use Rattle.std.specs.Prelude.{◌≡◌};
 ghost use Rattle.call.specs.Effects.{effect_alone, effect_heard, effect};
 ghost use Rattle.call.specs.Records.{frame_of};
+ghost use Rattle.call.specs.World.{time_of};
 ghost use Rattle.dispatch.specs.Checks.{Admitted};
 ghost use Rattle.dispatch.specs.Lent.{SameTables, lent};
 ghost use Rattle.dispatch.specs.Steps.{Stepped};
@@ -11,6 +13,7 @@ use super::tables::LentTables;
 use call::{Call, GroupCall};
 use messages::Message;
 use schemes::RankScheme;
+use timing::Time;
 
 mod anchors;
 mod mobiles;
@@ -22,17 +25,19 @@ pub(crate) fn step<S: RankScheme>(
     group: &mut GroupCall,
     tables: &mut LentTables<'_>,
     scheme: &S,
+    time: Time,
     call: &Call,
     heard: Option<Message>,
 ) -> Step
-    requires { Admitted group.old S.RankScheme.count tables.old call.now }
+    requires admitted { Admitted group.old S.RankScheme.count tables.old call.now }
+    requires time { time.ms ≡ time_of call.now }
     ensures frame { frame_of group.new ≡ frame_of group.old }
     ensures stepped { Stepped (effect (S.RankScheme.above scheme.now) (frame_of group.old) call.now (lent group.old tables.old) heard) (lent group.new tables.new) result }
     ensures same { SameTables tables.old tables.new }
 {
     match heard {
-        None => step_alone(group, tables, scheme, call),
-        Some(message) => step_hearing(group, tables, scheme, call, message),
+        None => step_alone(group, tables, scheme, time, call),
+        Some(message) => step_hearing(group, tables, scheme, time, call, message),
     }
 }
 
@@ -41,29 +46,31 @@ fn step_alone<S: RankScheme>(
     group: &mut GroupCall,
     tables: &mut LentTables<'_>,
     scheme: &S,
+    time: Time,
     call: &Call,
 ) -> Step
-    requires { Admitted group.old S.RankScheme.count tables.old call.now }
+    requires admitted { Admitted group.old S.RankScheme.count tables.old call.now }
+    requires time { time.ms ≡ time_of call.now }
     ensures frame { frame_of group.new ≡ frame_of group.old }
     ensures stepped { Stepped (effect_alone (S.RankScheme.above scheme.now) (frame_of group.old) call.now (lent group.old tables.old)) (lent group.new tables.new) result }
     ensures same { SameTables tables.old tables.new }
 {
     match *call {
         Call::Ask {
-            time,
             mobile,
             reference,
             rank,
+            ..
         } => mobiles::ask(group, tables, scheme, time, mobile, reference, rank),
-        Call::Finish { time, mobile } => mobiles::finish(group, tables, time, mobile),
-        Call::MobileTimer { time, mobile } => mobiles::timer(group, tables, scheme, time, mobile),
-        Call::StationTimer { time, station } => stations::tick(group, tables, time, station),
-        Call::RadioLoss { time, station } => stations::lose_radio(group, tables, time, station),
-        Call::Release { time } => anchors::release(group, tables, time),
-        Call::MobileHears { time, .. }
-        | Call::StationHearsAir { time, .. }
-        | Call::StationHearsWire { time, .. }
-        | Call::AnchorHears { time } => parts::stay_idle(group, time),
+        Call::Finish { mobile, .. } => mobiles::finish(group, tables, time, mobile),
+        Call::MobileTimer { mobile, .. } => mobiles::timer(group, tables, scheme, time, mobile),
+        Call::StationTimer { station, .. } => stations::tick(group, tables, time, station),
+        Call::RadioLoss { station, .. } => stations::lose_radio(group, tables, time, station),
+        Call::Release { .. } => anchors::release(group, tables, time),
+        Call::MobileHears { .. }
+        | Call::StationHearsAir { .. }
+        | Call::StationHearsWire { .. }
+        | Call::AnchorHears { .. } => parts::stay_idle(group, time),
     }
 }
 
@@ -72,30 +79,32 @@ fn step_hearing<S: RankScheme>(
     group: &mut GroupCall,
     tables: &mut LentTables<'_>,
     scheme: &S,
+    time: Time,
     call: &Call,
     message: Message,
 ) -> Step
-    requires { Admitted group.old S.RankScheme.count tables.old call.now }
+    requires admitted { Admitted group.old S.RankScheme.count tables.old call.now }
+    requires time { time.ms ≡ time_of call.now }
     ensures frame { frame_of group.new ≡ frame_of group.old }
     ensures stepped { Stepped (effect_heard (S.RankScheme.above scheme.now) (frame_of group.old) call.now (lent group.old tables.old) message) (lent group.new tables.new) result }
     ensures same { SameTables tables.old tables.new }
 {
     match *call {
-        Call::MobileHears { time, mobile } => {
+        Call::MobileHears { mobile, .. } => {
             mobiles::hear(group, tables, scheme, time, mobile, message)
         }
-        Call::StationHearsAir { time, station } => {
+        Call::StationHearsAir { station, .. } => {
             stations::hear_air(group, tables, scheme, time, station, message)
         }
-        Call::StationHearsWire { time, station } => {
+        Call::StationHearsWire { station, .. } => {
             stations::hear_wire(group, tables, time, station, message)
         }
-        Call::AnchorHears { time } => anchors::hear(group, tables, scheme, time, message),
-        Call::Ask { time, .. }
-        | Call::Finish { time, .. }
-        | Call::MobileTimer { time, .. }
-        | Call::StationTimer { time, .. }
-        | Call::RadioLoss { time, .. }
-        | Call::Release { time } => parts::stay_idle(group, time),
+        Call::AnchorHears { .. } => anchors::hear(group, tables, scheme, time, message),
+        Call::Ask { .. }
+        | Call::Finish { .. }
+        | Call::MobileTimer { .. }
+        | Call::StationTimer { .. }
+        | Call::RadioLoss { .. }
+        | Call::Release { .. } => parts::stay_idle(group, time),
     }
 }

@@ -19,7 +19,10 @@ impl Lateness {
         ensures value { (result ≡ late (next_state self.old.state)) × (result ≤ 7) }
         ensures after { self.new.state ≡ next_state self.old.state }
     {
-        self.state = self.state.wrapping_mul(1664525).wrapping_add(1013904223);
-        (self.state / 536870912) as u64
+        self.state = self
+            .state
+            .wrapping_mul(1_664_525)
+            .wrapping_add(1_013_904_223);
+        u64::from(self.state / 536_870_912)
     }
 }

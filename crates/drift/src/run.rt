@@ -25,36 +25,21 @@ pub fn run_days(clock: &mut Clock, lateness: &mut Lateness, days: u8) -> Report
     ensures all { (result.said ≤ notices_over days clock.old.period.ms) × (result.said < notices_over days clock.old.period.ms → 2 ^ 40 < clock.new.due + 7) }
     ensures kept { (clock.new.start ≡ clock.old.start) × (clock.new.period ≡ clock.old.period) }
 {
-    let notices = notices_in(days, clock);
-    run_notices(clock, lateness, notices)
-}
-
-fn notices_in(days: u8, clock: &Clock) -> u64
-    ensures { (result ≡ notices_over days clock.now.period.ms) × (result < 2 ^ 40) }
-{
-    u64::from(days) * clock.per_day()
-}
-
-fn run_notices(clock: &mut Clock, lateness: &mut Lateness, notices: u64) -> Report
-    requires { notices < 2 ^ 40 }
-    ensures passed { Passed clock.old.start clock.old.period.ms clock.old.due result.said clock.new.due }
-    ensures worst { result.worst ≡ 0 }
-    ensures crept { result.crept ≡ total_late result.said lateness.old.state }
-    ensures all { (result.said ≤ notices) × (result.said < notices → 2 ^ 40 < clock.new.due + 7) }
-    ensures kept { (clock.new.start ≡ clock.old.start) × (clock.new.period ≡ clock.old.period) }
-{
-    let mut said = 0;
+    let notices = u64::from(days) * clock.per_day();
     let mut worst = 0;
     let mut crept = 0;
-    while said < notices {
+    for said in 0..notices {
         worst = clock.distance().max(worst);
         let Some(late) = say_notice(clock, lateness) else {
-            break;
+            return Report { said, worst, crept };
         };
-        said += 1;
         crept += late;
     }
-    Report { said, worst, crept }
+    Report {
+        said: notices,
+        worst,
+        crept,
+    }
 }
 
 // Reads the clock once, as late as the pattern says: a notice is said, and the next is due one period later. Answers how late

@@ -6,10 +6,8 @@ use std::test::Fail;
 
 // The grant of the next message to the cell of station 1 for a listener, or a number that no message has here.
 fn next_grant(air: &mut Ether, listener: u16) -> u32 {
-    match air.hear(cell_address(1), listener) {
-        Some(message) => message.grant,
-        None => 1000,
-    }
+    air.hear(cell_address(1), listener)
+        .map_or(1000, |message| message.grant)
 }
 
 #[test]

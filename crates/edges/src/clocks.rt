@@ -2,20 +2,15 @@
 use station::{Clock, ClockRow};
 use timing::{Period, Time, Timer};
 
-// The due time after a clock that started at 1000 with a period of 200 was read.
+// The due time after a clock that started at 1000 with a period of 200 was read; 0 where a time is not in its limits.
 fn due_after_read(at: u64) -> u64 {
-    let Some(period) = Period::new(200) else {
-        return 0;
-    };
-    let Some(start) = Time::new(1000) else {
-        return 0;
-    };
-    let Some(time) = Time::new(at) else {
-        return 0;
-    };
-    let mut clock = Clock::started(start, period);
-    clock.read(time);
-    clock.due()
+    clock_read(at).map_or(0, |clock| clock.due())
+}
+
+fn clock_read(at: u64) -> Option<Clock> {
+    let mut clock = Clock::started(Time::new(1000)?, Period::new(200)?);
+    clock.read(Time::new(at)?);
+    Some(clock)
 }
 
 #[test]
@@ -27,10 +22,8 @@ fn a_late_read_keeps_the_grid(rt: HostRuntime) {
 }
 
 fn sound(start: u64, due: u64, period: u64) -> bool {
-    match Period::new(period) {
-        Some(period) => Clock::from_row(ClockRow { start, due }, period).is_some(),
-        None => false,
-    }
+    let row = ClockRow { start, due };
+    Period::new(period).is_some_and(|period| Clock::from_row(row, period).is_some())
 }
 
 #[test]

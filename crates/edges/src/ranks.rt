@@ -21,16 +21,12 @@ fn a_role_outside_its_limits_is_refused(rt: HostRuntime) {
 
 #[test]
 fn districts_decide(rt: HostRuntime) -> Result<(), Fail> {
-    let Ok(elsewhere) = book(5, 1) else {
-        return Err(Fail::new("a good book"));
-    };
+    let elsewhere = book(5, 1).map_err(|_| Fail::new("a good book"))?;
     assert!(rt;
         !elsewhere.is_above(0, 1),
         "level 5 district 1 against level 4 district 2"
     );
-    let Ok(everywhere) = book(5, 0) else {
-        return Err(Fail::new("a good book"));
-    };
+    let everywhere = book(5, 0).map_err(|_| Fail::new("a good book"))?;
     assert!(rt; everywhere.is_above(0, 1));
     assert!(rt; !everywhere.is_above(1, 0));
     assert!(rt; !everywhere.is_above(0, 16), "no such role");

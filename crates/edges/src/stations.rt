@@ -2,7 +2,8 @@
 use messages::Message;
 use schemes::Priorities;
 use station::{
-    ClockRow, Phase, Station, StationOutcome, StationRefusal, StationStep, StationTimers,
+    ClockRow, Phase, Station, StationMoment, StationOutcome, StationRefusal, StationStep,
+    StationTimers,
 };
 use timing::{Period, Time, Timer};
 
@@ -27,50 +28,43 @@ enum Answer {
     NotHeld,
 }
 
-fn of_step(step: StationStep) -> Answer {
-    match step.outcome {
-        StationOutcome::Idle => Answer::Idle,
-        StationOutcome::Ignored => Answer::Ignored,
-        StationOutcome::Acted => Answer::Acted(step.outbox.as_slice().len()),
-    }
-}
-
-fn of_result(res: Result<StationStep, StationRefusal>) -> Answer {
-    match res {
-        Ok(step) => of_step(step),
-        Err(refusal) => match refusal {
-            StationRefusal::BrokenClock => Answer::Broken,
-            StationRefusal::NotHeld => Answer::NotHeld,
-        },
-    }
-}
-
-fn happens(station: &mut Station, event: Event, time: Time, timers: StationTimers) -> Answer {
-    match event {
-        Event::Wire(_, message) => of_result(station.hear_wire(1, message, time, timers)),
-        Event::Air(_, message) => of_result(station.hear_air(
-            &Priorities,
-            1,
-            message,
-            time,
-            timers,
-        )),
-        Event::Tick(_) => of_result(station.tick(1, time, timers)),
-        Event::Loss => of_result(station.lose_radio(1, timers)),
-        Event::Damage(due) => {
-            station.clock = ClockRow { start: 0, due };
-            Answer::Idle
+impl From<StationStep> for Answer {
+    fn from(step: StationStep) -> Answer {
+        match step.outcome {
+            StationOutcome::Idle => Answer::Idle,
+            StationOutcome::Ignored => Answer::Ignored,
+            StationOutcome::Acted => Answer::Acted(step.outbox.as_slice().len()),
         }
     }
 }
 
+impl From<StationRefusal> for Answer {
+    fn from(refusal: StationRefusal) -> Answer {
+        match refusal {
+            StationRefusal::BrokenClock => Answer::Broken,
+            StationRefusal::NotHeld => Answer::NotHeld,
+        }
+    }
+}
+
+fn happens(station: &mut Station, event: Event, at: StationMoment) -> Answer {
+    let step = match event {
+        Event::Wire(_, message) => station.hear_wire(message, at),
+        Event::Air(_, message) => station.hear_air(&Priorities, message, at),
+        Event::Tick(_) => station.tick(at),
+        Event::Loss => station.lose_radio(at.number, at.timers),
+        Event::Damage(due) => {
+            station.clock = ClockRow { start: 0, due };
+            return Answer::Idle;
+        }
+    };
+    step.map_or_else(Answer::from, Answer::from)
+}
+
 fn ms(event: Event) -> u64 {
     match event {
-        Event::Wire(ms, _) => ms,
-        Event::Air(ms, _) => ms,
-        Event::Tick(ms) => ms,
-        Event::Loss => 0,
-        Event::Damage(_) => 0,
+        Event::Wire(ms, _) | Event::Air(ms, _) | Event::Tick(ms) => ms,
+        Event::Loss | Event::Damage(_) => 0,
     }
 }
 
@@ -87,8 +81,12 @@ fn last_answer(events: &[Event]) -> Option<Answer> {
     };
     let mut answer = Answer::Idle;
     for event in events {
-        let time = Time::new(ms(*event))?;
-        answer = happens(&mut station, *event, time, timers);
+        let at = StationMoment {
+            number: 1,
+            time: Time::new(ms(*event))?,
+            timers,
+        };
+        answer = happens(&mut station, *event, at);
     }
     Some(answer)
 }

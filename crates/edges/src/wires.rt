@@ -17,10 +17,7 @@ fn kept_of<C: Carrier>(carrier: &mut C, count: u32) -> u32 {
 
 // The grant of the next message to station 1, or a number that no message has here.
 fn next_grant<C: Carrier>(carrier: &mut C) -> u32 {
-    match carrier.hear(1, 1) {
-        Some(message) => message.grant,
-        None => 1000,
-    }
+    carrier.hear(1, 1).map_or(1000, |message| message.grant)
 }
 
 #[test]

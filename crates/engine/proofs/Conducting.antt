@@ -8,12 +8,14 @@ use Rattle.call.specs.Openings.{Given, Opening, opened}
 use Rattle.call.specs.Promises.{Kept}
 use Rattle.call.specs.Records.{frame_of}
 use Rattle.call.specs.Runs.{Run}
-use Rattle.call.specs.World.{Frame}
+use Rattle.call.specs.World.{Frame, World}
+use Rattle.call.specs.Notices.{NoDrift}
 use Rattle.call.specs.declared.answer.Answer.{Answer}
 use Rattle.call.specs.declared.calls.Call.{Call}
 use Rattle.call.specs.declared.«record».GroupCall.{GroupCall}
 use Rattle.call.proofs.Laws.{Carries, over_every_run}
 use Rattle.engine.specs.Conducts.{Conducted, Guaranteed}
+use Rattle.dispatch.specs.Lent.{lent}
 use Rattle.dispatch.specs.Worlds.{world}
 use Rattle.engine.specs.Lists.{Played}
 use Rattle.dispatch.specs.declared.tables.LentTables.{LentTables}
@@ -62,16 +64,18 @@ module _
   guaranteed =
       subst (λ (past : List Exchange). Guarantee above ranks past (world c t air' wire').tables.book (world c t air' wire').tables.last (world c t air' wire').tables.mobiles) played.answered kept_so.guarantee
 
-  pub conducted : Conducted air_list wire_list air_says wire_says air_hears wire_hears above ranks given air wire calls before after c t air' wire'
-  conducted =
+  -- at an end that is equal
+  pub conducted : {c' : GroupCall} {t' : LentTables} {air'' : A} {wire'' : W} → c ≡ c' → world c t air' wire' ≡ world c' t' air'' wire'' → Conducted air_list wire_list air_says wire_says air_hears wire_hears above ranks given air wire calls before after c' t' air'' wire''
+  conducted {c'} {t'} {air''} {wire''} same end =
+      let At : GroupCall → World A W → Type 0 = λ (x : GroupCall) (w : World A W). Run air_says wire_says air_hears wire_hears above ranks (frame_of x) (world c₀ t₀ air wire) played.trace w in
       record {
         first = world c₀ t₀ air wire;
-        opening = opening_so;
+        opening = subst (λ (x : GroupCall). Opening air_list wire_list given air wire opened (frame_of x) (world c₀ t₀ air wire)) same opening_so;
         trace = played.trace;
-        run = run_so;
+        run = subst (λ (x : GroupCall). At x (world c' t' air'' wire'')) same (subst (At c) end run_so);
         answered = played.answered;
         enough = played.enough;
         places = played.places;
         past = played.past;
-        no_drift = kept_so.no_drift;
+        no_drift = subst (λ (x : GroupCall). NoDrift (frame_of x) played.trace (lent c' t')) same (subst (λ (w : World A W). NoDrift (frame_of c) played.trace w.tables) end kept_so.no_drift);
       }

@@ -1,4 +1,3 @@
 mod Conducting
 mod Playing
-mod Refusals
 mod Subscribers

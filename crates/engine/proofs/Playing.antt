@@ -1,7 +1,7 @@
 -- A list played call by call.
 -- Assumes nothing.
-use Rattle.std.proofs.Common.{◌≡◌, ℕ, zero, suc, ◌+◌, ◌<◌, ◌≤◌, Bool, List, [], ◌∷◌, ◌++◌, length, get_or, take, drop, set, Option, sym, refl, ap, ◌∙◌, subst, zero-le, arith}
-use Rattle.std.proofs.lemmas.List.{map_push, length-set, length-take-le, take_all, drop-drop, drop-set-lt}
+use Rattle.std.proofs.Common.{◌≡◌, ℕ, zero, suc, ◌+◌, ◌<◌, Bool, List, [], ◌∷◌, ◌++◌, length, get_or, take, drop, set, Option, sym, refl, ap, ◌∙◌, subst, zero-le, arith}
+use Rattle.std.proofs.lemmas.List.{map_push, length-set, length-take-le, drop-drop, drop-set-lt}
 use Rattle.messages.specs.declared.message.Message.{Message}
 use Rattle.call.specs.Effects.{Did}
 use Rattle.call.specs.Histories.{Exchange}
@@ -12,8 +12,8 @@ use Rattle.call.specs.declared.answer.Answer.{Answer}
 use Rattle.call.specs.declared.calls.Call.{Call}
 use Rattle.call.specs.declared.«record».GroupCall.{GroupCall}
 use Rattle.dispatch.specs.Lent.{SameTables, lent}
-use Rattle.dispatch.specs.Worlds.{world}
-use Rattle.engine.specs.Lists.{Played, PlayedNext, exchanges}
+use Rattle.dispatch.specs.Worlds.{Made, world}
+use Rattle.engine.specs.Lists.{Played, exchanges}
 use Rattle.dispatch.specs.declared.tables.LentTables.{LentTables}
 
 same_tables : (t : LentTables) → SameTables t t
@@ -68,14 +68,11 @@ module _
   none_played c t air wire answers =
       record { frame = refl; trace = []; run = begun; answered = refl; enough = zero-le; places = refl; past = refl; same = same_tables t }
 
-  pub one_more : (c : GroupCall) (t : LentTables) (air : A) (wire : W) (calls : List Call) (before now_is : List Answer) (c₁ : GroupCall) (t₁ : LentTables) (air₁ : A) (wire₁ : W) (i : ℕ) (d : Call) (after : List Answer) (c₂ : GroupCall) (t₂ : LentTables) (air₂ : A) (wire₂ : W) → i < length calls → i < length now_is → PlayedSo c t air wire (take i calls) before now_is c₁ t₁ air₁ wire₁ → PlayedNext air_says wire_says air_hears wire_hears above ranks c₁ t₁ air₁ wire₁ (get_or calls i d) i now_is after c₂ t₂ air₂ wire₂ → PlayedSo c t air wire (take (i + 1) calls) before after c₂ t₂ air₂ wire₂
-  one_more c t air wire calls before now_is c₁ t₁ air₁ wire₁ i d after c₂ t₂ air₂ wire₂ l m p next =
-      let answer = next.answer in
-      let made = next.made in
+  pub one_more : {c c₁ c₂ : GroupCall} {t t₁ t₂ : LentTables} {air air₁ air₂ : A} {wire wire₁ wire₂ : W} {before : List Answer} (calls : List Call) (now_is : List Answer) (i : ℕ) (d : Call) (answer : Answer) → i < length calls → i < length now_is → PlayedSo c t air wire (take i calls) before now_is c₁ t₁ air₁ wire₁ → Made air_says wire_says air_hears wire_hears above ranks c₁ t₁ air₁ wire₁ (get_or calls i d) answer c₂ t₂ air₂ wire₂ → PlayedSo c t air wire (take (i + 1) calls) before (set now_is i answer) c₂ t₂ air₂ wire₂
+  one_more {c₁} {c₂} {t₁} {t₂} {air₁} {air₂} {wire₁} {wire₂} {before} calls now_is i d answer l m p made =
       let x : Exchange = record { call = get_or calls i d; answer = answer } in
       let moment : Moment = record { exchange = x; before = lent c₁ t₁; after = lent c₂ t₂ } in
-      subst (λ (places : List Answer). PlayedSo c t air wire (take (i + 1) calls) before places c₂ t₂ air₂ wire₂) (sym next.put)
-      (record {
+      record {
         frame = made.frame ∙ p.frame;
         trace = p.trace ++ moment ∷ [];
         run = called {before = world c₁ t₁ air₁ wire₁} {after = world c₂ t₂ air₂ wire₂} x p.run (subst (λ (f : Frame). Did air_says wire_says air_hears wire_hears above ranks f (world c₁ t₁ air₁ wire₁) (get_or calls i d) answer (world c₂ t₂ air₂ wire₂)) p.frame made.did);
@@ -84,8 +81,4 @@ module _
         places = length-set now_is i answer ∙ p.places;
         past = past_more calls now_is before i answer l p.past;
         same = both_same p.same made.same;
-      })
-
-  pub all_played : (c : GroupCall) (t : LentTables) (air : A) (wire : W) (calls : List Call) (before after : List Answer) (c₁ : GroupCall) (t₁ : LentTables) (air₁ : A) (wire₁ : W) (i : ℕ) → length calls ≤ i → PlayedSo c t air wire (take i calls) before after c₁ t₁ air₁ wire₁ → PlayedSo c t air wire calls before after c₁ t₁ air₁ wire₁
-  all_played c t air wire calls before after c₁ t₁ air₁ wire₁ i l p =
-      subst (λ (xs : List Call). PlayedSo c t air wire xs before after c₁ t₁ air₁ wire₁) (take_all i calls l) p
+      }

@@ -1,10 +1,7 @@
--- The check of the subscribers, one after another, and what it says of each.
+-- What the check of the subscribers says of each.
 -- Assumes nothing.
-use Rattle.std.proofs.Common.{◌≡◌, ℕ, zero, suc, ◌+◌, ◌<◌, ◌≤◌, Bool, true, ◌&&◌, leb, List, [], ◌∷◌, length, get_or, drop, sym, ap, ◌∙◌, le_trans, arith}
-use Rattle.std.proofs.lemmas.List.{at_drop_more}
-use Rattle.std.proofs.lemmas.Slice.{between_to_end}
+use Rattle.std.proofs.Common.{◌≡◌, ℕ, zero, suc, ◌≤◌, Bool, true, ◌&&◌, leb, List, [], ◌∷◌, le_trans, arith}
 use Rattle.std.proofs.lemmas.Bool.{and_parts, leb-true}
-use Rattle.std.specs.List.{between}
 use Rattle.call.specs.Openings.{identity_in_limits, unused, good_subscribers}
 use Rattle.call.specs.World.{is_there}
 use Rattle.call.specs.declared.opening.Subscriber.{Subscriber}
@@ -12,16 +9,6 @@ use Rattle.engine.specs.Openings.{Writable, AllWritable}
 
 abbrev can_enter : (stations : ℕ) → Subscriber → Bool
 can_enter stations s = identity_in_limits s.identity && is_there s.station stations
-
--- the next subscriber can enter or not, its identity is unused or not, and the others are left
-pub next : (stations : ℕ) (subscribers : List Subscriber) (i : ℕ) (d : Subscriber) (enters free : Bool) → i < length subscribers → enters ≡ can_enter stations (get_or subscribers i d) → free ≡ unused (get_or subscribers i d).identity (between (i + 1) (length subscribers) subscribers) → (enters && (free && good_subscribers stations (drop (i + 1) subscribers))) ≡ good_subscribers stations (drop i subscribers)
-next stations subscribers i d enters free within enters_is free_is =
-    let s = get_or subscribers i d in
-    let rest = good_subscribers stations (drop (i + 1) subscribers) in
-    let others = between_to_end subscribers (i + 1) (length subscribers) (omega arith) in
-    ap (λ x. x && (free && rest)) enters_is
-    ∙ ap (λ x. can_enter stations s && (x && rest)) (free_is ∙ ap (unused s.identity) others)
-    ∙ sym (at_drop_more (good_subscribers stations) subscribers i d within)
 
 can_enter_writable : (stations : ℕ) (s : Subscriber) → stations ≤ 255 → can_enter stations s ≡ true → Writable s
 can_enter_writable stations s few enters =

@@ -1,3 +1,4 @@
 pub mod Conducts
 pub mod Lists
+pub mod Ongoing
 pub mod Openings

@@ -1,6 +1,6 @@
 -- What a list of calls makes of the whole of a group call.
 -- Assumes nothing.
-use Rattle.std.specs.Prelude.{◌≡◌, ℕ, ◌≤◌, Bool, List, [], ◌∷◌, length, drop, Option, slice_set}
+use Rattle.std.specs.Prelude.{◌≡◌, ℕ, ◌≤◌, Bool, List, [], ◌∷◌, length, drop, Option}
 use Rattle.messages.specs.declared.message.Message.{Message}
 use Rattle.call.specs.Histories.{Exchange}
 use Rattle.call.specs.Records.{frame_of}
@@ -9,7 +9,7 @@ use Rattle.call.specs.declared.answer.Answer.{Answer}
 use Rattle.call.specs.declared.calls.Call.{Call}
 use Rattle.call.specs.declared.«record».GroupCall.{GroupCall}
 use Rattle.dispatch.specs.Lent.{SameTables, Untouched}
-use Rattle.dispatch.specs.Worlds.{Made, world}
+use Rattle.dispatch.specs.Worlds.{world}
 use Rattle.dispatch.specs.declared.tables.LentTables.{LentTables}
 
 -- nothing has changed
@@ -35,12 +35,6 @@ module _
     (wire_hears : W → ℕ → ℕ → Option Message → W → Type 0)
     (above : ℕ → ℕ → Bool)
     (ranks : ℕ) where
-  -- one call of a list made, and its answer put at its place
-  pub record PlayedNext (c : GroupCall) (t : LentTables) (air : A) (wire : W) (call : Call) (next : ℕ) (before after : List Answer) (c' : GroupCall) (t' : LentTables) (air' : A) (wire' : W) : Type 0 where
-    pub answer : Answer
-    pub made : Made air_says wire_says air_hears wire_hears above ranks c t air wire call answer c' t' air' wire'
-    pub put : after ≡ slice_set before next answer
-
   -- a list played: a run of its calls with the answers in their places, and the places past the list as they were
   pub record Played (c : GroupCall) (t : LentTables) (air : A) (wire : W) (calls : List Call) (before after : List Answer) (c' : GroupCall) (t' : LentTables) (air' : A) (wire' : W) : Type 0 where
     pub frame : frame_of c' ≡ frame_of c

@@ -5,14 +5,15 @@ ghost use Rattle.call.specs.World.{no_station};
 ghost use Rattle.engine.specs.Openings.{Writable, AllWritable};
 
 use call::Subscriber;
-use mobile::{Mobile, State, Uplink};
-use station::{ClockRow, Phase, Station};
+use mobile::Mobile;
+use station::Station;
 
 // Every mobile as its subscriber is entered.
 pub(crate) fn enter_mobiles(rows: &mut [Mobile], subscribers: &[Subscriber])
     requires { (length rows.old ≡ length subscribers.now) × (AllWritable subscribers.now) }
     ensures { rows.new ≡ map entered_row subscribers.now }
 {
+    // a zip with the rows: tried, and the proof did not close
     for (i, subscriber) in subscribers.iter().enumerate() {
         rows[i] = entered(subscriber);
     }
@@ -27,8 +28,7 @@ fn entered(subscriber: &Subscriber) -> Mobile
         identity: subscriber.identity as u32,
         station: subscriber.station as u8,
         allowed: subscriber.allowed,
-        state: State::Listens,
-        uplink: Uplink::Unknown,
+        ..Mobile::default()
     }
 }
 
@@ -36,18 +36,5 @@ fn entered(subscriber: &Subscriber) -> Mobile
 pub(crate) fn shut_stations(rows: &mut [Station])
     ensures { rows.new ≡ replicate (length rows.old) no_station }
 {
-    for row in rows.iter_mut() {
-        *row = shut();
-    }
-}
-
-fn shut() -> Station
-    ensures { result ≡ no_station }
-{
-    Station {
-        phase: Phase::Shut,
-        top: 0,
-        pending: None,
-        clock: ClockRow { start: 0, due: 0 },
-    }
+    rows.fill(Station::default());
 }

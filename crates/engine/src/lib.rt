@@ -1,4 +1,4 @@
-// What a host uses: the opening of a group call, its ten calls, lists of calls, and the call that opens and plays.
+// What a host uses: the opening of a group call, its ten calls and lists of calls while it goes on, and the call that opens and plays.
 #![tactic(auto)]
 
 mod calls;
@@ -7,10 +7,6 @@ mod enter;
 mod list;
 mod opening;
 
-pub use calls::{
-    anchor_hears, ask, finish, mobile_hears, mobile_timer, radio_loss, release, station_hears_air,
-    station_hears_wire, station_timer,
-};
+pub use calls::OngoingCall;
 pub use conducts::conduct;
-pub use list::play;
 pub use opening::{check_opening, open};

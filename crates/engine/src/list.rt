@@ -1,72 +1,35 @@
 // A list of calls, each on what the one before left.
 ghost use Rattle.std.specs.Prelude.{◌≡◌, ◌<◌, ◌≤◌, length, MatchResult};
 ghost use Rattle.call.specs.declared.answer.Refusal.TheVariants.{FewPlaces};
-ghost use Rattle.engine.specs.Lists.{Played, PlayedNext, SameWorld};
+ghost use Rattle.engine.specs.Ongoing.{PlayedOn, SameBorrows, SameWorldOn};
 
-use call::{Answer, Call, GroupCall, Refusal};
+use super::calls::OngoingCall;
+use call::{Answer, Call, Refusal};
 use carriers::Carrier;
-use dispatch::{LentTables, make};
 use schemes::RankScheme;
 
-// Plays the calls in order, with an answer for each; answer places past the list are left as found. Refused, with nothing played, where
-// there are fewer places than calls.
-pub fn play<S: RankScheme, A: Carrier, W: Carrier>(
-    group: &mut GroupCall,
-    tables: &mut LentTables<'_>,
-    scheme: &S,
-    air: &mut A,
-    wire: &mut W,
-    calls: &[Call],
-    answers: &mut [Answer],
-) -> Result<(), Refusal>
-    ensures { MatchResult result (λ _. Played A.Carrier.says W.Carrier.says A.Carrier.hears W.Carrier.hears (S.RankScheme.above scheme.now) S.RankScheme.count group.old tables.old air.old wire.old calls.now answers.old answers.new group.new tables.new air.new wire.new) (λ refusal. (refusal ≡ FewPlaces) × (length answers.old < length calls.now) × (answers.new ≡ answers.old) × SameWorld group.old tables.old air.old wire.old group.new tables.new air.new wire.new) }
-{
-    if answers.len() < calls.len() {
-        return Err(Refusal::FewPlaces);
+impl<S: RankScheme, A: Carrier, W: Carrier> OngoingCall<'_, '_, '_, S, A, W> {
+    // Plays the calls in order, with an answer for each; answer places past the list are left as found. Refused, with nothing played, where
+    // there are fewer places than calls.
+    pub fn play(&mut self, calls: &[Call], answers: &mut [Answer]) -> Result<(), Refusal>
+        ensures played { MatchResult result (λ _. PlayedOn A.Carrier.says W.Carrier.says A.Carrier.hears W.Carrier.hears S.RankScheme.above S.RankScheme.count self.old calls.now answers.old answers.new self.new) (λ refusal. (refusal ≡ FewPlaces) × (length answers.old < length calls.now) × (answers.new ≡ answers.old) × SameWorldOn self.old self.new) }
+        ensures same { SameBorrows self.old self.new }
+    {
+        if answers.len() < calls.len() {
+            return Err(Refusal::FewPlaces);
+        }
+        self.play_all(calls, answers);
+        Ok(())
     }
-    play_all(group, tables, scheme, air, wire, calls, answers);
-    Ok(())
-}
 
-pub(crate) fn play_all<S: RankScheme, A: Carrier, W: Carrier>(
-    group: &mut GroupCall,
-    tables: &mut LentTables<'_>,
-    scheme: &S,
-    air: &mut A,
-    wire: &mut W,
-    calls: &[Call],
-    answers: &mut [Answer],
-)
-    requires { length calls.now ≤ length answers.old }
-    ensures { Played A.Carrier.says W.Carrier.says A.Carrier.hears W.Carrier.hears (S.RankScheme.above scheme.now) S.RankScheme.count group.old tables.old air.old wire.old calls.now answers.old answers.new group.new tables.new air.new wire.new }
-{
-    for next in 0..calls.len() {
-        play_next(
-            group,
-            tables,
-            scheme,
-            air,
-            wire,
-            &calls[next],
-            answers,
-            next,
-        );
+    pub(crate) fn play_all(&mut self, calls: &[Call], answers: &mut [Answer])
+        requires { length calls.now ≤ length answers.old }
+        ensures played { PlayedOn A.Carrier.says W.Carrier.says A.Carrier.hears W.Carrier.hears S.RankScheme.above S.RankScheme.count self.old calls.now answers.old answers.new self.new }
+        ensures same { SameBorrows self.old self.new }
+    {
+        // a zip with the places: tried, and the proof did not close
+        for (next, call) in calls.iter().enumerate() {
+            answers[next] = self.make(call);
+        }
     }
-}
-
-// Makes a call, and puts its answer at its place.
-fn play_next<S: RankScheme, A: Carrier, W: Carrier>(
-    group: &mut GroupCall,
-    tables: &mut LentTables<'_>,
-    scheme: &S,
-    air: &mut A,
-    wire: &mut W,
-    call: &Call,
-    answers: &mut [Answer],
-    next: usize,
-)
-    requires { next < length answers.old }
-    ensures { PlayedNext A.Carrier.says W.Carrier.says A.Carrier.hears W.Carrier.hears (S.RankScheme.above scheme.now) S.RankScheme.count group.old tables.old air.old wire.old call.now next answers.old answers.new group.new tables.new air.new wire.new }
-{
-    answers[next] = make(group, tables, scheme, air, wire, call);
 }

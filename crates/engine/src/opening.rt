@@ -1,6 +1,6 @@
 // The opening of a group call.
 ghost use Rattle.std.specs.Prelude.{◌≡◌, true, ◌&&◌, length, Some, None, MatchResult};
-ghost use Rattle.call.specs.Openings.{Opening, identity_in_limits, opened, opening_check, good_subscribers, unused};
+ghost use Rattle.call.specs.Openings.{Opening, identity_in_limits, opened, opening_check, good_subscribers, refusal_at_opening, unused};
 ghost use Rattle.call.specs.Records.{frame_of};
 ghost use Rattle.call.specs.World.{is_there};
 ghost use Rattle.carriers.specs.Meaning.{empty};
@@ -9,25 +9,38 @@ ghost use Rattle.engine.specs.Openings.{given_of, OpeningRefused, AllWritable, F
 
 use super::enter::{enter_mobiles, shut_stations};
 use anchor::Stations;
-use call::{GroupCall, Refusal, SettingNumbers, Settings, Subscriber};
+use call::{CallSetup, GroupCall, Refusal, Settings, Subscriber};
 use carriers::Carrier;
 use dispatch::LentTables;
 
 // Sets up the rows, and gives the record; the book stays as it is found. A refused opening writes nothing.
 pub fn open<A: Carrier, W: Carrier>(
-    numbers: &SettingNumbers,
-    subscribers: &[Subscriber],
+    setup: &CallSetup<'_>,
     tables: &mut LentTables<'_>,
     air: &A,
     wire: &W,
 ) -> Result<GroupCall, Refusal>
-    ensures opening { MatchResult result (λ group. Opening A.Carrier.pending W.Carrier.pending (given_of numbers.now subscribers.now tables.entry.now) air.now wire.now opened (frame_of group) (record { tables = lent group tables.exit.now; air = air.now; wire = wire.now })) (λ refusal. OpeningRefused (given_of numbers.now subscribers.now tables.entry.now) (empty (A.Carrier.pending air.now) && empty (W.Carrier.pending wire.now)) tables.entry.now refusal tables.exit.now) }
+    ensures opening { MatchResult result (λ group. Opening A.Carrier.pending W.Carrier.pending (given_of setup.now.settings setup.now.subscribers.now tables.entry.now) air.now wire.now opened (frame_of group) (record { tables = lent group tables.exit.now; air = air.now; wire = wire.now })) (λ refusal. OpeningRefused (given_of setup.now.settings setup.now.subscribers.now tables.entry.now) (empty (A.Carrier.pending air.now) && empty (W.Carrier.pending wire.now)) tables.entry.now refusal tables.exit.now) }
     ensures book { tables.new.book.now ≡ tables.old.book.now }
     ensures same { SameTables tables.old tables.new }
 {
+    let group = opening_record(setup, tables, air, wire)?;
+    enter_mobiles(tables.mobiles, setup.subscribers);
+    shut_stations(tables.stations);
+    Ok(group)
+}
+
+// The record of the call at first, where the opening is not refused.
+pub(crate) fn opening_record<A: Carrier, W: Carrier>(
+    setup: &CallSetup<'_>,
+    tables: &LentTables<'_>,
+    air: &A,
+    wire: &W,
+) -> Result<GroupCall, Refusal>
+    ensures { MatchResult result (λ group. (refusal_at_opening (given_of setup.now.settings setup.now.subscribers.now tables.now) (empty (A.Carrier.pending air.now) && empty (W.Carrier.pending wire.now)) ≡ None) × FirstRecord setup.now.settings (length setup.now.subscribers.now) (length tables.now.stations.now) (length tables.now.book.now) group × AllWritable setup.now.subscribers.now) (λ refusal. refusal_at_opening (given_of setup.now.settings setup.now.subscribers.now tables.now) (empty (A.Carrier.pending air.now) && empty (W.Carrier.pending wire.now)) ≡ Some refusal) }
+{
     let group = first_record(
-        numbers,
-        subscribers,
+        setup,
         tables.mobiles.len(),
         tables.stations.len(),
         tables.book.len(),
@@ -35,48 +48,40 @@ pub fn open<A: Carrier, W: Carrier>(
     if !air.quiet() || !wire.quiet() {
         return Err(Refusal::NotQuiet);
     }
-    enter_mobiles(tables.mobiles, subscribers);
-    shut_stations(tables.stations);
     Ok(group)
 }
 
 // The checks of an opening but for the carriers: the first that fails, if one does.
 pub fn check_opening(
-    numbers: &SettingNumbers,
-    subscribers: &[Subscriber],
+    setup: &CallSetup<'_>,
     rows: usize,
     stations: usize,
     places: usize,
-) -> Option<Refusal>
-    ensures { result ≡ opening_check numbers.now subscribers.now rows stations places true }
+) -> Result<(), Refusal>
+    ensures { MatchResult result (λ _. opening_check setup.now.settings setup.now.subscribers.now rows stations places true ≡ None) (λ refusal. opening_check setup.now.settings setup.now.subscribers.now rows stations places true ≡ Some refusal) }
 {
-    match first_record(numbers, subscribers, rows, stations, places) {
-        Ok(_) => None,
-        Err(refusal) => Some(refusal),
-    }
+    first_record(setup, rows, stations, places)?;
+    Ok(())
 }
 
 // The record of the call at first, where none of those checks fails.
 fn first_record(
-    numbers: &SettingNumbers,
-    subscribers: &[Subscriber],
+    setup: &CallSetup<'_>,
     rows: usize,
     stations: usize,
     places: usize,
 ) -> Result<GroupCall, Refusal>
-    ensures { MatchResult result (λ group. (opening_check numbers.now subscribers.now rows stations places true ≡ None) × FirstRecord numbers.now (length subscribers.now) stations places group × AllWritable subscribers.now) (λ refusal. opening_check numbers.now subscribers.now rows stations places true ≡ Some refusal) }
+    ensures { MatchResult result (λ group. (opening_check setup.now.settings setup.now.subscribers.now rows stations places true ≡ None) × FirstRecord setup.now.settings (length setup.now.subscribers.now) stations places group × AllWritable setup.now.subscribers.now) (λ refusal. opening_check setup.now.settings setup.now.subscribers.now rows stations places true ≡ Some refusal) }
 {
-    let mobiles = subscribers.len();
-    let Some(stations) = Stations::new(stations as u64) else {
-        return Err(Refusal::Table);
-    };
+    let mobiles = setup.subscribers.len();
+    let stations = Stations::new(stations as u64).ok_or(Refusal::Table)?;
     if rows != mobiles || mobiles < 1 || mobiles > 200 || places < 1 || places > 4096 {
         return Err(Refusal::Table);
     }
-    if !subscribers_good(subscribers, stations) {
+    if !subscribers_good(setup.subscribers, stations) {
         return Err(Refusal::Identity);
     }
-    let settings = Settings::new(numbers.period, numbers.t3128, numbers.t3130, numbers.link)?;
+    let settings = Settings::try_from(setup.settings)?;
     GroupCall::new(settings, mobiles, stations, places).ok_or(Refusal::Table)
 }
 
@@ -85,13 +90,12 @@ fn subscribers_good(subscribers: &[Subscriber], stations: Stations) -> bool
     ensures good { result ≡ good_subscribers stations.count subscribers.now }
     ensures writable { result ≡ true → AllWritable subscribers.now }
 {
-    for (i, subscriber) in subscribers.iter().enumerate() {
-        if !can_enter(subscriber, stations) {
+    let mut rest = subscribers;
+    while let Some((subscriber, others)) = rest.split_first() {
+        if !can_enter(subscriber, stations) || !is_unused(subscriber.identity, others) {
             return false;
         }
-        if !is_unused(subscriber.identity, &subscribers[i + 1..]) {
-            return false;
-        }
+        rest = others;
     }
     true
 }
@@ -110,10 +114,5 @@ fn can_enter(subscriber: &Subscriber, stations: Stations) -> bool
 fn is_unused(identity: u64, others: &[Subscriber]) -> bool
     ensures { result ≡ unused identity others.now }
 {
-    for other in others {
-        if identity == other.identity {
-            return false;
-        }
-    }
-    true
+    others.iter().all(|other| identity != other.identity)
 }

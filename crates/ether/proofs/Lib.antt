@@ -1,1 +1,1 @@
-mod Ring
+pub mod Hearing

@@ -2,16 +2,17 @@
 -- Assumes nothing.
 use Rattle.std.specs.Prelude.{◌≡◌, ℕ, Bool, true, false, cond, not, List, [], ◌∷◌, ◌++◌, map, length, drop, IfSome, Some, None, Option, nat_le, nat_lt, slice_index_or, refl}
 use Rattle.std.proofs.Common.{inl, inr, ⊎_elim, sym, ap, subst}
+use Rattle.std.specs.List.{find}
 use Rattle.std.specs.Option.{option_map}
 use Rattle.std.proofs.lemmas.List.{map-append}
 use Rattle.std.proofs.lemmas.Bool.{and_parts, eqb-true}
 use Rattle.messages.specs.declared.message.Message.{Message}
 use Rattle.ether.specs.Ethers.{message_in, fresh, with_newest, unheard, marked, next_heard, after_hearing}
-use Rattle.carriers.specs.Firsts.{first, change_first}
+use Rattle.carriers.specs.Firsts.{change_first}
 use Rattle.carriers.specs.Meaning.{On, Within, Joined, Picked, FromList}
 use Rattle.carriers.specs.Queues.{goes_to}
 use Rattle.ether.specs.declared.slot.Slot.{Slot}
-use Rattle.carriers.specs.Lists.{on_last, on_push, first_on}
+use Rattle.carriers.specs.Lists.{on_last, on_push, found_on}
 
 -- what is left without the oldest was kept before
 pub within_later : (slots : List Slot) (m : Message) → On m (map message_in (drop 1 slots)) → On m (map message_in slots)
@@ -48,10 +49,10 @@ picked a l slots = at (nat_le l 208)
     from None h = tt
     from (Some slot) h = (h.0, eqb-true _ _ (and_parts (goes_to a slot.message) (not (slice_index_or slot.heard l false)) h.1).0)
 
-    at : (b : Bool) → Picked a (cond b (option_map message_in (first (unheard a l) slots)) None) (map message_in slots) (map message_in (cond b (change_first (unheard a l) (marked l) slots) slots))
+    at : (b : Bool) → Picked a (cond b (option_map message_in (find (unheard a l) slots)) None) (map message_in slots) (map message_in (cond b (change_first (unheard a l) (marked l) slots) slots))
     at true =
         record {
-          from = from (first (unheard a l) slots) (first_on message_in (unheard a l) slots);
+          from = from (find (unheard a l) slots) (found_on message_in (unheard a l) slots);
           only = subst (Within (map message_in slots)) (sym (same_messages (unheard a l) l slots)) (λ m h. h);
         }
     at false = record { from = tt; only = λ m h. h }

@@ -1,20 +1,17 @@
 -- The Ether: the last 32 messages said, oldest first, each with who has heard it. Listeners are 0 to 208.
 -- Assumes nothing.
-use Rattle.std.specs.Prelude.{◌≡◌, ℕ, ◌<◌, Bool, true, false, cond, not, ◌&&◌, List, [], ◌∷◌, ◌++◌, length, take, drop, replicate, Some, None, vec_items, Option, nat_le, nat_lt, slice_index_or, slice_set}
+use Rattle.std.specs.Prelude.{ℕ, Bool, true, false, cond, not, ◌&&◌, List, [], ◌∷◌, ◌++◌, length, drop, replicate, None, Option, nat_le, nat_lt, slice_index_or, slice_set}
+use Rattle.std.specs.List.{find}
 use Rattle.std.specs.Option.{option_map}
-use Rattle.messages.specs.Messages.{FREE}
 use Rattle.messages.specs.declared.message.Message.{Message}
-use Rattle.carriers.specs.Firsts.{first, change_first}
+use Rattle.carriers.specs.Firsts.{change_first}
 use Rattle.carriers.specs.Queues.{goes_to}
 use Rattle.ether.specs.declared.slot.Slot.{Slot}
 use Rattle.ether.specs.declared.ether.Ether.{Ether}
 
--- the slots from the oldest on, and then those before it
-abbrev pub rotated : ℕ → List Slot → List Slot
-rotated oldest slots = drop oldest slots ++ take oldest slots
-
+-- the slots, oldest first
 abbrev pub slots_of : Ether → List Slot
-slots_of ether = rotated ether.oldest (vec_items ether.slots)
+slots_of ether = ether.slots.items
 
 abbrev pub message_in : Slot → Message
 message_in slot = slot.message
@@ -36,19 +33,9 @@ marked listener slot = record { message = slot.message; heard = slice_set slot.h
 
 -- a listener up to 208 hears the oldest that it has not heard, others hear none
 abbrev pub next_heard : (address listener : ℕ) → List Slot → Option Message
-next_heard address listener slots = cond (nat_le listener 208) (option_map message_in (first (unheard address listener) slots)) None
+next_heard address listener slots = cond (nat_le listener 208) (option_map message_in (find (unheard address listener) slots)) None
 
 -- what is kept after that
 abbrev pub after_hearing : (address listener : ℕ) → List Slot → List Slot
 after_hearing address listener slots =
     cond (nat_le listener 208) (change_first (unheard address listener) (marked listener) slots) slots
-
--- only read past the last slot
-abbrev pub no_slot : Slot
-no_slot = fresh (FREE 0)
-
--- the first slot, oldest first, that passes a test stands at place i of the ring
-pub record SlotAt (p : Slot → Bool) (oldest : ℕ) (slots : List Slot) (i : ℕ) : Type 0 where
-  pub within : i < length slots
-  pub found : first p (rotated oldest slots) ≡ Some (slice_index_or slots i no_slot)
-  pub changed : (f : Slot → Slot) → change_first p f (rotated oldest slots) ≡ rotated oldest (slice_set slots i (f (slice_index_or slots i no_slot)))

@@ -1,12 +1,11 @@
 // The message record, with one constructor for each kind. A field that a kind does not name is 0, and its cause is none.
-ghost use Rattle.std.specs.Prelude.{◌≡◌};
-ghost use Rattle.messages.specs.Messages.{downlink, uplink, to_anchor, to_station};
+ghost use Rattle.std.specs.Prelude.{◌≡◌, None};
 ghost use Rattle.messages.specs.Messages.{FREE, BUSY, GRANT, UA, RELEASE, ACCESS, TALKER_INDICATION, END, REQUEST, CONFIRMATION, RELEASE_INDICATION, ACKNOWLEDGE, REJECT, SEIZED, RELEASE_COMMAND, cause_number};
 
 use super::address::{anchor_address, cell_address, station_address};
 
 // On the air to a cell.
-#[derive(Clone, Copy)]
+#[derive(Clone, Copy, PartialEq, Eq, Debug)]
 pub enum DownlinkKind {
     Free,
     Busy,
@@ -16,7 +15,7 @@ pub enum DownlinkKind {
 }
 
 // On the air to a station.
-#[derive(Clone, Copy)]
+#[derive(Clone, Copy, PartialEq, Eq, Debug)]
 pub enum UplinkKind {
     Access,
     TalkerIndication,
@@ -24,7 +23,7 @@ pub enum UplinkKind {
 }
 
 // On the wire to the anchor.
-#[derive(Clone, Copy)]
+#[derive(Clone, Copy, PartialEq, Eq, Debug)]
 pub enum AnchorKind {
     Request,
     Confirmation,
@@ -32,7 +31,7 @@ pub enum AnchorKind {
 }
 
 // On the wire to a station.
-#[derive(Clone, Copy)]
+#[derive(Clone, Copy, PartialEq, Eq, Debug)]
 pub enum StationKind {
     Acknowledge,
     Reject,
@@ -40,7 +39,7 @@ pub enum StationKind {
     ReleaseCommand,
 }
 
-#[derive(Clone, Copy)]
+#[derive(Clone, Copy, PartialEq, Eq, Debug)]
 pub enum Kind {
     Downlink(DownlinkKind),
     Uplink(UplinkKind),
@@ -49,13 +48,15 @@ pub enum Kind {
 }
 
 // Why a station gives up a grant.
-#[derive(Clone, Copy)]
+#[derive(Clone, Copy, PartialEq, Eq, Debug)]
 pub enum Cause {
-    CallControl,
-    RadioMessageFailure,
-    RadioFailure,
+    CallControl = 1,
+    RadioMessageFailure = 2,
+    RadioFailure = 3,
 }
 
+// One record for all kinds, since every rule reads its fields the same way whatever the kind; with fields in the kinds, each rule would take them
+// out of the kind again.
 #[derive(Clone, Copy)]
 pub struct Message {
     pub address: u16,
@@ -74,92 +75,22 @@ impl Cause {
     pub fn number(self) -> u8
         ensures { result ≡ cause_number self }
     {
-        match self {
-            Cause::CallControl => 1,
-            Cause::RadioMessageFailure => 2,
-            Cause::RadioFailure => 3,
-        }
+        self as u8
     }
 }
 
 impl Message {
-    fn downlink(
-        kind: DownlinkKind,
-        station: u8,
-        reference: u16,
-        rank: u8,
-        grant: u32,
-        identity: u32,
-    ) -> Message
-        ensures { result ≡ downlink kind station reference rank grant identity }
+    // Of this kind to this address, with no other field named.
+    fn bare(address: u16, kind: Kind) -> Message
+        ensures { result ≡ record { address = address; kind = kind; station = 0; reference = 0; rank = 0; grant = 0; identity = 0; cause = None } }
     {
         Message {
-            address: cell_address(station),
-            kind: Kind::Downlink(kind),
+            address,
+            kind,
             station: 0,
-            reference,
-            rank,
-            grant,
-            identity,
-            cause: None,
-        }
-    }
-
-    fn uplink(
-        kind: UplinkKind,
-        station: u8,
-        reference: u16,
-        rank: u8,
-        grant: u32,
-        identity: u32,
-    ) -> Message
-        ensures { result ≡ uplink kind station reference rank grant identity }
-    {
-        Message {
-            address: station_address(station),
-            kind: Kind::Uplink(kind),
-            station: 0,
-            reference,
-            rank,
-            grant,
-            identity,
-            cause: None,
-        }
-    }
-
-    fn to_anchor(
-        kind: AnchorKind,
-        station: u8,
-        reference: u16,
-        rank: u8,
-        grant: u32,
-        identity: u32,
-        cause: Option<Cause>,
-    ) -> Message
-        ensures { result ≡ to_anchor kind station reference rank grant identity cause }
-    {
-        Message {
-            address: anchor_address(),
-            kind: Kind::Anchor(kind),
-            station,
-            reference,
-            rank,
-            grant,
-            identity,
-            cause,
-        }
-    }
-
-    fn to_station(kind: StationKind, station: u8, reference: u16, rank: u8, grant: u32) -> Message
-        ensures { result ≡ to_station kind station reference rank grant }
-    {
-        Message {
-            address: station_address(station),
-            kind: Kind::Station(kind),
-            station: 0,
-            reference,
-            rank,
-            grant,
+            reference: 0,
+            rank: 0,
+            grant: 0,
             identity: 0,
             cause: None,
         }
@@ -170,31 +101,44 @@ impl Message {
     pub fn free(station: u8) -> Message
         ensures { result ≡ FREE station }
     {
-        Message::downlink(DownlinkKind::Free, station, 0, 0, 0, 0)
+        Message::bare(cell_address(station), Kind::Downlink(DownlinkKind::Free))
     }
 
     pub fn busy(station: u8, rank: u8) -> Message
         ensures { result ≡ BUSY station rank }
     {
-        Message::downlink(DownlinkKind::Busy, station, 0, rank, 0, 0)
+        let bare = Message::bare(cell_address(station), Kind::Downlink(DownlinkKind::Busy));
+        Message { rank, ..bare }
     }
 
     pub fn grant(station: u8, reference: u16, rank: u8, grant: u32) -> Message
         ensures { result ≡ GRANT station reference rank grant }
     {
-        Message::downlink(DownlinkKind::Grant, station, reference, rank, grant, 0)
+        let bare = Message::bare(cell_address(station), Kind::Downlink(DownlinkKind::Grant));
+        Message {
+            reference,
+            rank,
+            grant,
+            ..bare
+        }
     }
 
     pub fn ua(station: u8, grant: u32, identity: u32) -> Message
         ensures { result ≡ UA station grant identity }
     {
-        Message::downlink(DownlinkKind::Ua, station, 0, 0, grant, identity)
+        let bare = Message::bare(cell_address(station), Kind::Downlink(DownlinkKind::Ua));
+        Message {
+            grant,
+            identity,
+            ..bare
+        }
     }
 
     pub fn release(station: u8, grant: u32) -> Message
         ensures { result ≡ RELEASE station grant }
     {
-        Message::downlink(DownlinkKind::Release, station, 0, 0, grant, 0)
+        let bare = Message::bare(cell_address(station), Kind::Downlink(DownlinkKind::Release));
+        Message { grant, ..bare }
     }
 
     // On the air, to a station.
@@ -202,19 +146,31 @@ impl Message {
     pub fn access(station: u8, reference: u16, rank: u8) -> Message
         ensures { result ≡ ACCESS station reference rank }
     {
-        Message::uplink(UplinkKind::Access, station, reference, rank, 0, 0)
+        let bare = Message::bare(station_address(station), Kind::Uplink(UplinkKind::Access));
+        Message {
+            reference,
+            rank,
+            ..bare
+        }
     }
 
     pub fn talker_indication(station: u8, grant: u32, identity: u32) -> Message
         ensures { result ≡ TALKER_INDICATION station grant identity }
     {
-        Message::uplink(UplinkKind::TalkerIndication, station, 0, 0, grant, identity)
+        let kind = Kind::Uplink(UplinkKind::TalkerIndication);
+        let bare = Message::bare(station_address(station), kind);
+        Message {
+            grant,
+            identity,
+            ..bare
+        }
     }
 
     pub fn end(station: u8, grant: u32) -> Message
         ensures { result ≡ END station grant }
     {
-        Message::uplink(UplinkKind::End, station, 0, 0, grant, 0)
+        let bare = Message::bare(station_address(station), Kind::Uplink(UplinkKind::End));
+        Message { grant, ..bare }
     }
 
     // On the wire to the anchor, from a station.
@@ -222,35 +178,40 @@ impl Message {
     pub fn request(station: u8, reference: u16, rank: u8) -> Message
         ensures { result ≡ REQUEST station reference rank }
     {
-        Message::to_anchor(AnchorKind::Request, station, reference, rank, 0, 0, None)
+        let bare = Message::bare(anchor_address(), Kind::Anchor(AnchorKind::Request));
+        Message {
+            station,
+            reference,
+            rank,
+            ..bare
+        }
     }
 
     pub fn confirmation(station: u8, grant: u32, identity: u32) -> Message
         ensures { result ≡ CONFIRMATION station grant identity }
     {
-        Message::to_anchor(
-            AnchorKind::Confirmation,
+        let bare = Message::bare(anchor_address(), Kind::Anchor(AnchorKind::Confirmation));
+        Message {
             station,
-            0,
-            0,
             grant,
             identity,
-            None,
-        )
+            ..bare
+        }
     }
 
     pub fn release_indication(station: u8, grant: u32, cause: Cause) -> Message
         ensures { result ≡ RELEASE_INDICATION station grant cause }
     {
-        Message::to_anchor(
-            AnchorKind::ReleaseIndication,
+        let bare = Message::bare(
+            anchor_address(),
+            Kind::Anchor(AnchorKind::ReleaseIndication),
+        );
+        Message {
             station,
-            0,
-            0,
             grant,
-            0,
-            Some(cause),
-        )
+            cause: Some(cause),
+            ..bare
+        }
     }
 
     // On the wire, to a station.
@@ -258,24 +219,47 @@ impl Message {
     pub fn acknowledge(station: u8, reference: u16, rank: u8, grant: u32) -> Message
         ensures { result ≡ ACKNOWLEDGE station reference rank grant }
     {
-        Message::to_station(StationKind::Acknowledge, station, reference, rank, grant)
+        let bare = Message::bare(
+            station_address(station),
+            Kind::Station(StationKind::Acknowledge),
+        );
+        Message {
+            reference,
+            rank,
+            grant,
+            ..bare
+        }
     }
 
     pub fn reject(station: u8, reference: u16, rank: u8) -> Message
         ensures { result ≡ REJECT station reference rank }
     {
-        Message::to_station(StationKind::Reject, station, reference, rank, 0)
+        let bare = Message::bare(station_address(station), Kind::Station(StationKind::Reject));
+        Message {
+            reference,
+            rank,
+            ..bare
+        }
     }
 
     pub fn seized(station: u8, rank: u8, grant: u32) -> Message
         ensures { result ≡ SEIZED station rank grant }
     {
-        Message::to_station(StationKind::Seized, station, 0, rank, grant)
+        let bare = Message::bare(station_address(station), Kind::Station(StationKind::Seized));
+        Message {
+            rank,
+            grant,
+            ..bare
+        }
     }
 
     pub fn release_command(station: u8, grant: u32) -> Message
         ensures { result ≡ RELEASE_COMMAND station grant }
     {
-        Message::to_station(StationKind::ReleaseCommand, station, 0, 0, grant)
+        let bare = Message::bare(
+            station_address(station),
+            Kind::Station(StationKind::ReleaseCommand),
+        );
+        Message { grant, ..bare }
     }
 }

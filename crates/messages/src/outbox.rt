@@ -1,4 +1,5 @@
-// The outbox of one step: up to ten messages in order, each for the air or for the wire.
+// The outbox of one step: up to ten messages in order, each for the air or for the wire. It is a plain array with how many are used, since a
+// step allocates nothing and is copied, which neither a Vec nor an ArrayVec is.
 ghost use Rattle.std.specs.Prelude.{◌≡◌, ◌≤◌, length};
 
 use super::message::Message;

@@ -3,26 +3,25 @@ ghost use Rattle.std.specs.Prelude.{◌≡◌, true, false, MatchResult};
 ghost use Rattle.mobile.specs.Steps.{MobileDid, mobile_listens, mobile_talks, asked, finished, starts, waits};
 
 use super::parts::{quiet, saying};
-use super::row::{Attempt, Mobile, MobileOutcome, MobileRefusal, MobileStep, MobileTimers, State};
+use super::row::{
+    Attempt, Mobile, MobileMoment, MobileOutcome, MobileRefusal, MobileStep, State, TalkRequest,
+};
 use messages::{Message, Post};
 use schemes::RankScheme;
-use timing::Time;
 
 impl Mobile {
     // Starts the first attempt where the uplink is open, and else waits for it. Refused unless the mobile listens.
     pub fn ask<S: RankScheme>(
         &mut self,
-        reference: u16,
-        rank: u8,
-        time: Time,
-        timers: &MobileTimers,
+        request: TalkRequest,
+        at: MobileMoment,
         scheme: &S,
     ) -> Result<MobileStep, MobileRefusal>
-        ensures row { self.new ≡ (asked (S.RankScheme.above scheme.now) reference rank time.ms timers.now self.old).row }
-        ensures answer { MatchResult result (λ step. (mobile_listens self.old ≡ true) × MobileDid (asked (S.RankScheme.above scheme.now) reference rank time.ms timers.now self.old) self.new step) (λ why. (mobile_listens self.old ≡ false) × (self.new ≡ self.old) × (why ≡ MobileRefusal.NotListening)) }
+        ensures row { self.new ≡ (asked (S.RankScheme.above scheme.now) request.reference request.rank at.time.ms at.timers self.old).row }
+        ensures answer { MatchResult result (λ step. (mobile_listens self.old ≡ true) × MobileDid (asked (S.RankScheme.above scheme.now) request.reference request.rank at.time.ms at.timers self.old) self.new step) (λ why. (mobile_listens self.old ≡ false) × (self.new ≡ self.old) × (why ≡ MobileRefusal.NotListening)) }
     {
         match self.state {
-            State::Listens => Ok(self.start(reference, rank, time, timers, scheme)),
+            State::Listens => Ok(self.start(request, at, scheme)),
             State::Waits { .. } | State::Asks { .. } | State::Links { .. } | State::Talks { .. } =>
                 { Err(MobileRefusal::NotListening) }
         }
@@ -30,29 +29,27 @@ impl Mobile {
 
     fn start<S: RankScheme>(
         &mut self,
-        reference: u16,
-        rank: u8,
-        time: Time,
-        timers: &MobileTimers,
+        request: TalkRequest,
+        at: MobileMoment,
         scheme: &S,
     ) -> MobileStep
-        ensures { MobileDid (starts (S.RankScheme.above scheme.now) reference rank time.ms timers.now self.old) self.new result }
+        ensures { MobileDid (starts (S.RankScheme.above scheme.now) request.reference request.rank at.time.ms at.timers self.old) self.new result }
     {
-        if self.open_to(rank, time, scheme) {
-            self.attempt(Attempt::First, reference, rank, time, timers)
+        if self.open_to(request.rank, at.time, scheme) {
+            self.attempt(Attempt::First, request, at)
         } else {
-            self.wait(reference, rank, time, timers)
+            self.wait(request, at)
         }
     }
 
-    fn wait(&mut self, reference: u16, rank: u8, time: Time, timers: &MobileTimers) -> MobileStep
-        ensures { MobileDid (waits reference rank time.ms timers.now self.old) self.new result }
+    fn wait(&mut self, request: TalkRequest, at: MobileMoment) -> MobileStep
+        ensures { MobileDid (waits request.reference request.rank at.time.ms at.timers self.old) self.new result }
     {
-        let deadline = time.ms() + timers.t3128.ms();
+        let TalkRequest { reference, rank } = request;
         self.state = State::Waits {
             reference,
             rank,
-            deadline,
+            deadline: at.time.ms() + at.timers.t3128.ms(),
         };
         quiet(MobileOutcome::Waits)
     }

@@ -3,30 +3,30 @@ ghost use Rattle.mobile.specs.Steps.{MobileDid, heard, on_free, on_busy, on_gran
 
 use super::parts::{quiet, saying};
 use super::row::{
-    Attempt, Mobile, MobileOutcome, MobileStep, MobileTimers, Rejection, State, Uplink,
+    Attempt, Mobile, MobileMoment, MobileOutcome, MobileStep, Rejection, State, TalkRequest, Uplink,
 };
 use messages::{DownlinkKind, Kind, Message, Post};
 use schemes::RankScheme;
-use timing::Time;
 
 impl Mobile {
     // Only a message on the air to a cell is for a mobile; any other is ignored.
     pub fn hear<S: RankScheme>(
         &mut self,
         message: Message,
-        time: Time,
-        timers: &MobileTimers,
+        at: MobileMoment,
         scheme: &S,
     ) -> MobileStep
-        ensures { MobileDid (heard (S.RankScheme.above scheme.now) time.ms timers.now message self.old) self.new result }
+        ensures { MobileDid (heard (S.RankScheme.above scheme.now) at.time.ms at.timers message self.old) self.new result }
     {
         match message.kind {
-            Kind::Downlink(DownlinkKind::Free) => self.hear_free(time, timers),
-            Kind::Downlink(DownlinkKind::Busy) => {
-                self.hear_busy(message.rank, time, timers, scheme)
-            }
+            Kind::Downlink(DownlinkKind::Free) => self.hear_free(at),
+            Kind::Downlink(DownlinkKind::Busy) => self.hear_busy(message.rank, at, scheme),
             Kind::Downlink(DownlinkKind::Grant) => {
-                self.hear_grant(message.reference, message.rank, message.grant, time, timers)
+                let request = TalkRequest {
+                    reference: message.reference,
+                    rank: message.rank,
+                };
+                self.hear_grant(request, message.grant, at)
             }
             Kind::Downlink(DownlinkKind::Ua) => self.hear_ua(message.grant, message.identity),
             Kind::Downlink(DownlinkKind::Release) => self.hear_release(message.grant),
@@ -35,30 +35,26 @@ impl Mobile {
     }
 
     // A mobile that waits starts its first attempt.
-    fn hear_free(&mut self, time: Time, timers: &MobileTimers) -> MobileStep
-        ensures { MobileDid (on_free time.ms timers.now self.old) self.new result }
+    fn hear_free(&mut self, at: MobileMoment) -> MobileStep
+        ensures { MobileDid (on_free at.time.ms at.timers self.old) self.new result }
     {
-        self.uplink = Uplink::Free { since: time.ms() };
+        self.uplink = Uplink::Free {
+            since: at.time.ms(),
+        };
         match self.state {
             State::Waits {
                 reference,
                 rank,
                 ..
-            } => self.attempt(Attempt::First, reference, rank, time, timers),
+            } => self.attempt(Attempt::First, TalkRequest { reference, rank }, at),
             State::Listens | State::Asks { .. } | State::Links { .. } | State::Talks { .. } => {
                 quiet(MobileOutcome::Applied)
             }
         }
     }
 
-    fn hear_busy<S: RankScheme>(
-        &mut self,
-        talker: u8,
-        time: Time,
-        timers: &MobileTimers,
-        scheme: &S,
-    ) -> MobileStep
-        ensures { MobileDid (on_busy (S.RankScheme.above scheme.now) talker time.ms timers.now self.old) self.new result }
+    fn hear_busy<S: RankScheme>(&mut self, talker: u8, at: MobileMoment, scheme: &S) -> MobileStep
+        ensures { MobileDid (on_busy (S.RankScheme.above scheme.now) talker at.time.ms at.timers self.old) self.new result }
     {
         self.uplink = Uplink::Busy { rank: talker };
         match self.state {
@@ -68,7 +64,7 @@ impl Mobile {
                 ..
             } => {
                 if scheme.is_above(rank, talker) {
-                    self.attempt(Attempt::First, reference, rank, time, timers)
+                    self.attempt(Attempt::First, TalkRequest { reference, rank }, at)
                 } else {
                     quiet(MobileOutcome::Applied)
                 }
@@ -86,15 +82,8 @@ impl Mobile {
         }
     }
 
-    fn hear_grant(
-        &mut self,
-        reference: u16,
-        rank: u8,
-        grant: u32,
-        time: Time,
-        timers: &MobileTimers,
-    ) -> MobileStep
-        ensures { MobileDid (on_grant reference rank grant time.ms timers.now self.old) self.new result }
+    fn hear_grant(&mut self, request: TalkRequest, grant: u32, at: MobileMoment) -> MobileStep
+        ensures { MobileDid (on_grant request.reference request.rank grant at.time.ms at.timers self.old) self.new result }
     {
         match self.state {
             State::Asks {
@@ -102,8 +91,8 @@ impl Mobile {
                 rank: wanted,
                 ..
             } => {
-                if reference == own && rank == wanted {
-                    self.link(grant, time, timers)
+                if request.reference == own && request.rank == wanted {
+                    self.link(grant, at)
                 } else {
                     self.reject(Rejection::GrantedToOther)
                 }
@@ -114,10 +103,10 @@ impl Mobile {
         }
     }
 
-    fn link(&mut self, grant: u32, time: Time, timers: &MobileTimers) -> MobileStep
-        ensures { MobileDid (links grant time.ms timers.now self.old) self.new result }
+    fn link(&mut self, grant: u32, at: MobileMoment) -> MobileStep
+        ensures { MobileDid (links grant at.time.ms at.timers self.old) self.new result }
     {
-        let deadline = time.ms() + timers.link.ms();
+        let deadline = at.time.ms() + at.timers.link.ms();
         self.state = State::Links { grant, deadline };
         let message = Message::talker_indication(self.station, grant, self.identity);
         saying(MobileOutcome::Applied, Post::Air(message))

@@ -12,6 +12,6 @@ mod timer;
 
 pub use last::most_attempts;
 pub use row::{
-    Attempt, Mobile, MobileOutcome, MobileRefusal, MobileStep, MobileTimers, Rejection, State,
-    Uplink,
+    Attempt, Mobile, MobileMoment, MobileOutcome, MobileRefusal, MobileStep, MobileTimers,
+    Rejection, State, TalkRequest, Uplink,
 };

@@ -5,7 +5,7 @@ ghost use Rattle.mobile.specs.Rows.{open_to};
 ghost use Rattle.mobile.specs.Steps.{MobileDid, rejected, attempts};
 
 use super::row::{
-    Attempt, Mobile, MobileOutcome, MobileStep, MobileTimers, Rejection, State, Uplink,
+    Attempt, Mobile, MobileMoment, MobileOutcome, MobileStep, Rejection, State, TalkRequest, Uplink,
 };
 use messages::{Message, Outbox, Post};
 use schemes::RankScheme;
@@ -53,19 +53,17 @@ impl Mobile {
     pub(super) fn attempt(
         &mut self,
         attempt: Attempt,
-        reference: u16,
-        rank: u8,
-        time: Time,
-        timers: &MobileTimers,
+        request: TalkRequest,
+        at: MobileMoment,
     ) -> MobileStep
-        ensures { MobileDid (attempts attempt reference rank time.ms timers.now self.old) self.new result }
+        ensures { MobileDid (attempts attempt request.reference request.rank at.time.ms at.timers self.old) self.new result }
     {
-        let deadline = time.ms() + timers.t3130.ms();
+        let TalkRequest { reference, rank } = request;
         self.state = State::Asks {
             attempt,
             reference,
             rank,
-            deadline,
+            deadline: at.time.ms() + at.timers.t3130.ms(),
         };
         saying(
             MobileOutcome::Attempt(attempt),

@@ -3,9 +3,9 @@ ghost use Rattle.std.specs.Prelude.{◌≡◌};
 ghost use Rattle.mobile.specs.Rows.{attempt_number, rejection_cause, may_ask};
 
 use messages::Outbox;
-use timing::Timer;
+use timing::{Time, Timer};
 
-#[derive(Clone, Copy)]
+#[derive(Clone, Copy, Default)]
 pub struct Mobile {
     pub identity: u32,
     // the station in whose cell it is
@@ -16,8 +16,9 @@ pub struct Mobile {
     pub uplink: Uplink,
 }
 
-#[derive(Clone, Copy)]
+#[derive(Clone, Copy, Default)]
 pub enum State {
+    #[default]
     Listens,
     // for an uplink that is open to its rank, until the deadline
     Waits {
@@ -42,16 +43,17 @@ pub enum State {
     },
 }
 
-#[derive(Clone, Copy)]
+#[derive(Clone, Copy, PartialEq, Eq, Debug)]
 pub enum Attempt {
-    First,
-    Second,
-    Third,
+    First = 1,
+    Second = 2,
+    Third = 3,
 }
 
 // What the mobile knows of the uplink.
-#[derive(Clone, Copy)]
+#[derive(Clone, Copy, Default)]
 pub enum Uplink {
+    #[default]
     Unknown,
     // the time at which FREE was heard last
     Free { since: u64 },
@@ -59,17 +61,17 @@ pub enum Uplink {
 }
 
 // Why the mobile gave up what its user asked for.
-#[derive(Clone, Copy)]
+#[derive(Clone, Copy, PartialEq, Eq, Debug)]
 pub enum Rejection {
-    WaitExpired,
-    UplinkBusy,
+    WaitExpired = 1,
+    UplinkBusy = 2,
     // after the third attempt
-    NoAnswer,
-    GrantedToOther,
-    LinkFailed,
+    NoAnswer = 3,
+    GrantedToOther = 4,
+    LinkFailed = 5,
 }
 
-#[derive(Clone, Copy)]
+#[derive(Clone, Copy, PartialEq, Eq, Debug)]
 pub enum MobileOutcome {
     // no deadline is reached
     Idle,
@@ -95,6 +97,20 @@ pub struct MobileTimers {
     pub link: Timer,
 }
 
+// When a mobile takes a step: the time, and its timers.
+#[derive(Clone, Copy)]
+pub struct MobileMoment {
+    pub time: Time,
+    pub timers: MobileTimers,
+}
+
+// What its user asks for: a talk with this reference and rank.
+#[derive(Clone, Copy)]
+pub struct TalkRequest {
+    pub reference: u16,
+    pub rank: u8,
+}
+
 #[derive(Clone, Copy)]
 pub struct MobileStep {
     pub outcome: MobileOutcome,
@@ -102,7 +118,7 @@ pub struct MobileStep {
 }
 
 // Why a step that its user asks for is not taken.
-#[derive(Clone, Copy)]
+#[derive(Clone, Copy, PartialEq, Eq, Debug)]
 pub enum MobileRefusal {
     NotListening,
     NotTalking,
@@ -112,11 +128,7 @@ impl Attempt {
     pub fn number(self) -> u8
         ensures { result ≡ attempt_number self }
     {
-        match self {
-            Attempt::First => 1,
-            Attempt::Second => 2,
-            Attempt::Third => 3,
-        }
+        self as u8
     }
 }
 
@@ -124,13 +136,7 @@ impl Rejection {
     pub fn cause(self) -> u8
         ensures { result ≡ rejection_cause self }
     {
-        match self {
-            Rejection::WaitExpired => 1,
-            Rejection::UplinkBusy => 2,
-            Rejection::NoAnswer => 3,
-            Rejection::GrantedToOther => 4,
-            Rejection::LinkFailed => 5,
-        }
+        self as u8
     }
 }
 

@@ -1,14 +1,20 @@
-// The edges of a mobile's steps, under the talker priorities.
-use super::row::{Attempt, Mobile, MobileOutcome, MobileStep, MobileTimers, State, Uplink};
+// The edges of a mobile's steps, under the talker priorities. Outcomes are told by their numbers, and 0 or 255 stand for none.
+use super::row::{
+    Attempt, Mobile, MobileMoment, MobileOutcome, MobileStep, MobileTimers, State, TalkRequest,
+    Uplink,
+};
 use messages::Message;
 use schemes::Priorities;
 use timing::{Time, Timer};
 
-fn timers() -> Option<MobileTimers> {
-    Some(MobileTimers {
-        t3128: Timer::new(4000)?,
-        t3130: Timer::new(1000)?,
-        link: Timer::new(2000)?,
+fn moment(ms: u64) -> Option<MobileMoment> {
+    Some(MobileMoment {
+        time: Time::new(ms)?,
+        timers: MobileTimers {
+            t3128: Timer::new(4000)?,
+            t3130: Timer::new(1000)?,
+            link: Timer::new(2000)?,
+        },
     })
 }
 
@@ -58,14 +64,11 @@ fn ended(step: MobileStep) -> u32 {
 // What the timer gives at a time, on an uplink that is busy with a normal talker.
 fn timed(state: State, ms: u64) -> Option<MobileStep> {
     let mut row = mobile(state, Uplink::Busy { rank: 0 });
-    Some(row.timer(Time::new(ms)?, &timers()?, &Priorities))
+    Some(row.timer(moment(ms)?, &Priorities))
 }
 
 fn cause_at(state: State, ms: u64) -> u8 {
-    match timed(state, ms) {
-        Some(step) => cause(step),
-        None => 255,
-    }
+    timed(state, ms).map_or(255, cause)
 }
 
 // The causes just before the deadline and at it.
@@ -74,38 +77,31 @@ fn causes_around(state: State) -> (u8, u8) {
 }
 
 fn attempt_at(state: State, ms: u64) -> u8 {
-    match timed(state, ms) {
-        Some(step) => attempt(step),
-        None => 255,
-    }
+    timed(state, ms).map_or(255, attempt)
 }
 
 fn heard(state: State, message: Message) -> Option<MobileStep> {
     let mut row = mobile(state, Uplink::Unknown);
-    Some(row.hear(message, Time::new(500)?, &timers()?, &Priorities))
+    Some(row.hear(message, moment(500)?, &Priorities))
 }
 
 fn cause_heard(state: State, message: Message) -> u8 {
-    match heard(state, message) {
-        Some(step) => cause(step),
-        None => 255,
-    }
+    heard(state, message).map_or(255, cause)
 }
 
 fn ended_heard(state: State, message: Message) -> u32 {
-    match heard(state, message) {
-        Some(step) => ended(step),
-        None => 255,
-    }
+    heard(state, message).map_or(255, ended)
 }
 
 // The attempt that starts when its user asks at a time, where FREE was heard at 100.
 fn asked_at(ms: u64) -> Option<u8> {
     let mut row = mobile(State::Listens, Uplink::Free { since: 100 });
-    match row.ask(9, 1, Time::new(ms)?, &timers()?, &Priorities) {
-        Ok(step) => Some(attempt(step)),
-        Err(_) => None,
-    }
+    let request = TalkRequest {
+        reference: 9,
+        rank: 1,
+    };
+    let step = row.ask(request, moment(ms)?, &Priorities).ok()?;
+    Some(attempt(step))
 }
 
 #[test]

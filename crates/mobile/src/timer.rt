@@ -3,7 +3,9 @@ ghost use Rattle.std.specs.Prelude.{◌≡◌, nat_le};
 ghost use Rattle.mobile.specs.Steps.{MobileDid, timed, again, unanswered};
 
 use super::parts::quiet;
-use super::row::{Attempt, Mobile, MobileOutcome, MobileStep, MobileTimers, Rejection, State};
+use super::row::{
+    Attempt, Mobile, MobileMoment, MobileOutcome, MobileStep, Rejection, State, TalkRequest,
+};
 use schemes::RankScheme;
 use timing::Time;
 
@@ -14,42 +16,29 @@ fn reached(deadline: u64, time: Time) -> bool
 }
 
 impl Mobile {
-    pub fn timer<S: RankScheme>(
-        &mut self,
-        time: Time,
-        timers: &MobileTimers,
-        scheme: &S,
-    ) -> MobileStep
-        ensures { MobileDid (timed (S.RankScheme.above scheme.now) time.ms timers.now self.old) self.new result }
+    pub fn timer<S: RankScheme>(&mut self, at: MobileMoment, scheme: &S) -> MobileStep
+        ensures { MobileDid (timed (S.RankScheme.above scheme.now) at.time.ms at.timers self.old) self.new result }
     {
         match self.state {
-            State::Waits { deadline, .. } => {
-                if reached(deadline, time) {
-                    self.reject(Rejection::WaitExpired)
-                } else {
-                    quiet(MobileOutcome::Idle)
-                }
+            State::Waits { deadline, .. } if reached(deadline, at.time) => {
+                self.reject(Rejection::WaitExpired)
             }
             State::Asks {
                 attempt,
                 reference,
                 rank,
                 deadline,
-            } => {
-                if reached(deadline, time) {
-                    self.unanswered(attempt, reference, rank, time, timers, scheme)
-                } else {
-                    quiet(MobileOutcome::Idle)
-                }
+            } if reached(deadline, at.time) => {
+                self.unanswered(attempt, TalkRequest { reference, rank }, at, scheme)
             }
-            State::Links { deadline, .. } => {
-                if reached(deadline, time) {
-                    self.reject(Rejection::LinkFailed)
-                } else {
-                    quiet(MobileOutcome::Idle)
-                }
+            State::Links { deadline, .. } if reached(deadline, at.time) => {
+                self.reject(Rejection::LinkFailed)
             }
-            State::Listens | State::Talks { .. } => quiet(MobileOutcome::Idle),
+            State::Listens
+            | State::Waits { .. }
+            | State::Asks { .. }
+            | State::Links { .. }
+            | State::Talks { .. } => quiet(MobileOutcome::Idle),
         }
     }
 
@@ -57,17 +46,15 @@ impl Mobile {
     fn unanswered<S: RankScheme>(
         &mut self,
         attempt: Attempt,
-        reference: u16,
-        rank: u8,
-        time: Time,
-        timers: &MobileTimers,
+        request: TalkRequest,
+        at: MobileMoment,
         scheme: &S,
     ) -> MobileStep
-        ensures { MobileDid (unanswered attempt (S.RankScheme.above scheme.now) reference rank time.ms timers.now self.old) self.new result }
+        ensures { MobileDid (unanswered attempt (S.RankScheme.above scheme.now) request.reference request.rank at.time.ms at.timers self.old) self.new result }
     {
         match attempt {
-            Attempt::First => self.again(Attempt::Second, reference, rank, time, timers, scheme),
-            Attempt::Second => self.again(Attempt::Third, reference, rank, time, timers, scheme),
+            Attempt::First => self.again(Attempt::Second, request, at, scheme),
+            Attempt::Second => self.again(Attempt::Third, request, at, scheme),
             Attempt::Third => self.reject(Rejection::NoAnswer),
         }
     }
@@ -75,16 +62,14 @@ impl Mobile {
     fn again<S: RankScheme>(
         &mut self,
         attempt: Attempt,
-        reference: u16,
-        rank: u8,
-        time: Time,
-        timers: &MobileTimers,
+        request: TalkRequest,
+        at: MobileMoment,
         scheme: &S,
     ) -> MobileStep
-        ensures { MobileDid (again attempt (S.RankScheme.above scheme.now) reference rank time.ms timers.now self.old) self.new result }
+        ensures { MobileDid (again attempt (S.RankScheme.above scheme.now) request.reference request.rank at.time.ms at.timers self.old) self.new result }
     {
-        if self.open_to(rank, time, scheme) {
-            self.attempt(attempt, reference, rank, time, timers)
+        if self.open_to(request.rank, at.time, scheme) {
+            self.attempt(attempt, request, at)
         } else {
             self.reject(Rejection::UplinkBusy)
         }

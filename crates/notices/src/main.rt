@@ -1,7 +1,7 @@
 // Ninety days of one station's notices, a line for each ten days.
 #![tactic(auto)]
 
-use anyhow::anyhow;
+use anyhow::Context;
 use drift::{Lateness, run_days};
 use station::Clock;
 use timing::{Period, Time};
@@ -11,12 +11,8 @@ fn main(rt: HostRuntime) -> anyhow::Result<()> {
 }
 
 fn ninety_days(rt: &impl Print) -> anyhow::Result<()> {
-    let Some(period) = Period::new(200) else {
-        return Err(anyhow!("no such period"));
-    };
-    let Some(start) = Time::new(0) else {
-        return Err(anyhow!("no such time"));
-    };
+    let period = Period::new(200).context("no such period")?;
+    let start = Time::new(0).context("no such time")?;
     let mut clock = Clock::started(start, period);
     let mut lateness = Lateness::new(1);
     let mut said: u64 = 0;

@@ -1,8 +1,8 @@
 -- The first line of a text judged by its parts.
 -- Assumes nothing.
-use Rattle.std.proofs.Common.{◌≡◌, ℕ, ◌+◌, ◌-◌, ◌<◌, ◌≤◌, Bool, true, false, cond, eqb, List, [], ◌∷◌, length, get_or, take, drop, Some, None, Ok, Err, Option, Result, sym, refl, ap, ◌∙◌, ⊎_elim, arith}
+use Rattle.std.proofs.Common.{◌≡◌, ℕ, ◌+◌, ◌<◌, ◌≤◌, Bool, true, false, cond, eqb, List, [], ◌∷◌, length, get_or, drop, Some, Ok, Option, Result, sym, refl, ap, ◌∙◌, arith}
 use Rattle.std.proofs.lemmas.List.{drop-drop, length-drop}
-use Rattle.std.proofs.lemmas.Bool.{cases_eq, cond-true, cond-false, eq-eqb, ne_eqb}
+use Rattle.std.proofs.lemmas.Bool.{cond-false}
 use Rattle.playlist.specs.Entries.{Good, entry_in, good, is_note, judged, judged_kind, judged_letter}
 use Rattle.playlist.specs.Forms.{Entry, kind_named}
 use Rattle.playlist.specs.Forms.Entry.{note}
@@ -11,7 +11,7 @@ use Rattle.playlist.specs.Scans.{after_line, before, count_of, fields_after, fir
 use Rattle.playlist.specs.Texts.{fields, lines, onto_first}
 use Rattle.playlist.specs.declared.kind.Kind.{Kind}
 use Rattle.playlist.specs.declared.place.Place.{Place}
-use Rattle.playlist.proofs.Parting.{after_drop, drop_before, fields_cut, first_field_is, length_before, lines_cut, take_before}
+use Rattle.playlist.proofs.Parting.{after_drop, drop_before, fields_cut, first_field_is, length_before, lines_cut}
 
 length_onto : (b : ℕ) (ps : List (List ℕ)) → 0 < length ps → length (onto_first b ps) ≡ length ps
 length_onto b [] l = absurd (let z = l in omega arith)
@@ -60,27 +60,11 @@ module _ (text : List ℕ) (kind : Kind) (is : Some kind ≡ kind_named (get_or 
   pub line_end : after_line (drop 1 text) ≡ after_line text
   line_end = after_drop text 1 (letter_there (leading_line text) kind is)
 
--- a note by its first byte
-note_by_first : (text : List ℕ) → is_note (leading_line text) ≡ eqb (get_or text 0 0) 35
-note_by_first [] = refl
-note_by_first (b ∷ bs) =
-    ⊎_elim
-    (λ (e : b ≡ 10).
-    ap (λ (xs : List ℕ). eqb (get_or xs 0 0) 35) (cond-true (eqb b 10) [] (b ∷ leading_line bs) (eq-eqb b 10 e)) ∙ ap (λ (n : ℕ). eqb n 35) (sym e))
-    (λ (e : b ≡ 10 → ⊥). ap (λ (xs : List ℕ). eqb (get_or xs 0 0) 35) (cond-false (eqb b 10) [] (b ∷ leading_line bs) (ne_eqb b 10 e)))
-    (cases_eq b 10)
-
 abbrev noted : Place → List ℕ → Result Good ℕ
 noted place bs = Ok (record { entry = note bs; place = place })
 
 abbrev plainly : Place → List ℕ → Result Good ℕ
 plainly place line = judged_letter place (kind_named (get_or (fields line) 0 [])) (drop 1 (fields line))
-
-pub a_note : (place : Place) (text : List ℕ) (len : ℕ) (bytes : List ℕ) → get_or text 0 0 ≡ 35 → len ≡ length (leading_line text) → bytes ≡ drop 1 (take (len - 0) text) → judged place (leading_line text) ≡ Ok (record { entry = note bytes; place = place })
-a_note place text len bytes is e b =
-    let same : len - 0 ≡ length (leading_line text) = omega arith in
-    cond-true (is_note (leading_line text)) (noted place (drop 1 (leading_line text))) (plainly place (leading_line text)) (note_by_first text ∙ eq-eqb (get_or text 0 0) 35 is)
-    ∙ ap (noted place) (sym (b ∙ ap (λ (n : ℕ). drop 1 (take n text)) same ∙ ap (drop 1) (take_before 10 text)))
 
 -- a line with a letter
 pub good_letter : (place next : Place) (line : List ℕ) (kind : Kind) (e : Entry) → false ≡ is_note line → Some kind ≡ kind_named (get_or (fields line) 0 []) → Some next ≡ follows place kind → entry_in kind (drop 1 (fields line)) ≡ Ok e → judged place line ≡ Ok (record { entry = e; place = next })
@@ -89,35 +73,6 @@ good_letter place next line kind e plain is stands entry =
     ∙ ap (λ (k : Option Kind). judged_letter place k (drop 1 (fields line))) (sym is)
     ∙ ap (λ (p : Option Place). judged_kind kind p (drop 1 (fields line))) (sym stands)
     ∙ ap (good next) entry
-
-module _ (place : Place) (text : List ℕ) (other : get_or text 0 0 ≡ 35 → ⊥) where
-  plain : is_note (leading_line text) ≡ false
-  plain = note_by_first text ∙ ne_eqb (get_or text 0 0) 35 other
-
-  by_letter : judged place (leading_line text) ≡ plainly place (leading_line text)
-  by_letter =
-      cond-false (is_note (leading_line text)) (noted place (drop 1 (leading_line text))) (plainly place (leading_line text)) plain
-
-  pub no_letter_here : None ≡ kind_named (get_or (fields (leading_line text)) 0 []) → judged place (leading_line text) ≡ Err 1
-  no_letter_here is =
-      by_letter ∙ ap (λ (k : Option Kind). judged_letter place k (drop 1 (fields (leading_line text)))) (sym is)
-
-  module _ (kind : Kind) (is : Some kind ≡ kind_named (get_or (fields (leading_line text)) 0 [])) where
-    by_kind : judged place (leading_line text) ≡ judged_kind kind (follows place kind) (drop 1 (fields (leading_line text)))
-    by_kind = by_letter ∙ ap (λ (k : Option Kind). judged_letter place k (drop 1 (fields (leading_line text)))) (sym is)
-
-    pub wrong_order : None ≡ follows place kind → judged place (leading_line text) ≡ Err 0
-    wrong_order stands = by_kind ∙ ap (λ (p : Option Place). judged_kind kind p (drop 1 (fields (leading_line text)))) (sym stands)
-
-    module _ (next : Place) (stands : Some next ≡ follows place kind) where
-      by_entry : judged place (leading_line text) ≡ good next (entry_in kind (drop 1 (fields (leading_line text))))
-      by_entry = by_kind ∙ ap (λ (p : Option Place). judged_kind kind p (drop 1 (fields (leading_line text)))) (sym stands)
-
-      pub good_line : (e : Entry) → entry_in kind (drop 1 (fields (leading_line text))) ≡ Ok e → judged place (leading_line text) ≡ Ok (record { entry = e; place = next })
-      good_line e entry = by_entry ∙ ap (good next) entry
-
-      pub bad_line : (field : ℕ) → entry_in kind (drop 1 (fields (leading_line text))) ≡ Err field → judged place (leading_line text) ≡ Err field
-      bad_line field entry = by_entry ∙ ap (good next) entry
 
 -- the first line, and the others
 pub line_and_others : (text : List ℕ) → 0 < length text → lines text ≡ leading_line text ∷ lines (drop 1 (after_line text))

@@ -2,21 +2,31 @@
 -- Assumes nothing.
 use Rattle.std.proofs.Common.{◌≡◌, ℕ, zero, suc, ◌+◌, ◌*◌, ◌^◌, ◌<◌, ◌≤◌, Bool, true, false, cond, not, ◌&&◌, ◌||◌, eqb, leb, List, [], ◌∷◌, ◌++◌, length, get_or, take, drop, Some, None, Option, sym, refl, ap, ◌∙◌, subst, ⊎_elim, pow-suc, add-one, arith}
 use native.Mathlib.Nat.{pow-le-pow_right}
-use Rattle.std.proofs.lemmas.List.{append-nil, at_drop_all, at_drop_more, drop-drop, length-append, length-drop, nil_from_length}
-use Rattle.std.proofs.lemmas.Bool.{and_from, and_left, and_parts, and_right, cases_Bool, cases_eq, cond-true, cond-false, eq-eqb, false≢true, le-leb, leb-false, leb-true, lt-leb, ne_eqb, or_from, or_parts}
+use Rattle.std.proofs.lemmas.List.{append-nil, at_drop_all, at_drop_more, drop-drop, length-drop, nil_from_length}
+use Rattle.std.proofs.lemmas.List.Recursion.{is_count_by, same_from_clauses}
+use Rattle.std.proofs.lemmas.List.Sums.{take_while-cons}
+use Rattle.std.specs.List.{count_by, take_while}
+use Rattle.std.proofs.lemmas.Bool.{and_from, and_left, and_parts, and_right, cases_Bool, cases_eq, cond-true, cond-false, false≢true, leb-false, leb-true, lt-leb, ne_eqb, or_from, or_parts}
 use Rattle.playlist.specs.Forms.{kind_named, letter}
-use Rattle.playlist.specs.Scans.{after_line, before, digits_front, fields_after, first_field, leading_line, is_stop}
+use Rattle.playlist.specs.Scans.{after_line, before, count_of, digits_front, fields_after, first_field, leading_line, is_stop}
 use Rattle.playlist.specs.Texts.{all_digits, fields, has_shape, is_digit, lines, number, onto_first, value_after}
 
-pub before_here : (mark : ℕ) (bs : List ℕ) (i : ℕ) → i < length bs → get_or bs i 0 ≡ mark → before mark (drop i bs) ≡ []
-before_here mark bs i l e =
-    at_drop_more (before mark) bs i 0 l
-    ∙ cond-true (eqb (get_or bs i 0) mark) [] (get_or bs i 0 ∷ before mark (drop (i + 1) bs)) (eq-eqb (get_or bs i 0) mark e)
+-- the bytes before a mark, and the digits at the front, as the library has them
+pub before_is : (mark : ℕ) (bs : List ℕ) → before mark bs ≡ take_while (λ b. not (eqb b mark)) bs
+before_is mark =
+    same_from_clauses (before mark) (take_while (λ b. not (eqb b mark))) (λ b ys. cond (not (eqb b mark)) (b ∷ ys) []) refl
+    (λ b bs. elim (eqb b mark) as (λ (t : Bool). cond t [] (b ∷ before mark bs) ≡ cond (not t) (b ∷ before mark bs) []) [ true ↦ refl | false ↦ refl ])
+    (take_while-cons (λ b. not (eqb b mark)))
 
-pub before_more : (mark : ℕ) (bs : List ℕ) (i : ℕ) → i < length bs → (get_or bs i 0 ≡ mark → ⊥) → before mark (drop i bs) ≡ get_or bs i 0 ∷ before mark (drop (i + 1) bs)
-before_more mark bs i l e =
-    at_drop_more (before mark) bs i 0 l
-    ∙ cond-false (eqb (get_or bs i 0) mark) [] (get_or bs i 0 ∷ before mark (drop (i + 1) bs)) (ne_eqb (get_or bs i 0) mark e)
+pub front_is : (bs : List ℕ) → digits_front bs ≡ take_while is_digit bs
+front_is =
+    same_from_clauses digits_front (take_while is_digit) (λ b ys. cond (is_digit b) (b ∷ ys) []) refl (λ b bs. refl) (take_while-cons is_digit)
+
+-- how often a mark comes
+pub count_is : (mark : ℕ) (bs : List ℕ) → count_of mark bs ≡ count_by (λ b. eqb b mark) bs
+count_is mark =
+    is_count_by (count_of mark) (λ b. eqb b mark) refl
+    (λ b bs. elim (eqb b mark) as (λ (t : Bool). cond t 1 0 + count_of mark bs ≡ cond t (1 + count_of mark bs) (count_of mark bs)) [ true ↦ refl | false ↦ omega arith ])
 
 pub length_before : (mark : ℕ) (bs : List ℕ) → length (before mark bs) ≤ length bs
 length_before mark [] = omega arith
@@ -64,16 +74,22 @@ lines_cut (b ∷ bs) l =
     lines_from bs b
     ∙ ap (λ (n : ℕ). before 10 (b ∷ bs) ∷ lines (drop n (b ∷ bs))) (sym (add-one (length (before 10 (b ∷ bs)))))
 
-pub one_counted : (mark b : ℕ) → b ≡ mark → ◌≡◌ {A = ℕ} (cond (eqb b mark) 1 0) 1
-one_counted mark b e = cond-true (eqb b mark) 1 0 (eq-eqb b mark e)
-
-pub none_counted : (mark b : ℕ) → (b ≡ mark → ⊥) → ◌≡◌ {A = ℕ} (cond (eqb b mark) 1 0) 0
-none_counted mark b e = cond-false (eqb b mark) 1 0 (ne_eqb b mark e)
-
 pub digit_bounds : (b : ℕ) → true ≡ is_digit b → (48 ≤ b) × (b ≤ 57)
 digit_bounds b e =
     let p = and_parts (leb 48 b) (leb b 57) (sym e) in
     (leb-true 48 b p.0, leb-true b 57 p.1)
+
+-- the digits from a place on
+module _ (ds : List ℕ) (i : ℕ) (l : i < length ds) (all : all_digits (drop i ds) ≡ true) where
+  here_and_on : (is_digit (get_or ds i 0) ≡ true) × (all_digits (drop (i + 1) ds) ≡ true)
+  here_and_on =
+      and_parts (is_digit (get_or ds i 0)) (all_digits (drop (i + 1) ds)) (sym (at_drop_more all_digits ds i 0 l) ∙ all)
+
+  pub digit_here : (48 ≤ get_or ds i 0) × (get_or ds i 0 ≤ 57)
+  digit_here = digit_bounds (get_or ds i 0) (sym here_and_on.0)
+
+  pub digits_on : all_digits (drop (i + 1) ds) ≡ true
+  digits_on = here_and_on.1
 
 -- one digit more, while there are at most thirteen
 pub one_more_digit : (n i d : ℕ) → n < 10 ^ i → d ≤ 9 → n * 10 + d < 10 ^ (i + 1)
@@ -122,17 +138,6 @@ line_empty bs e =
     let none : leading_line bs ≡ [] = nil_from_length (leading_line bs) e in
     (ap fields_after none, ap (λ (n : ℕ). drop n bs) e)
 
-pub no_bytes : (bs : List ℕ) → length bs ≡ 0 → true ≡ eqb (length (leading_line bs)) 0
-no_bytes bs e = sym (ap (λ (xs : List ℕ). eqb (length (leading_line xs)) 0) (nil_from_length bs e))
-
-pub by_first_byte : (bs : List ℕ) → (length bs ≡ 0 → ⊥) → eqb (get_or bs 0 0) 10 ≡ eqb (length (leading_line bs)) 0
-by_first_byte [] ne = absurd (ne refl)
-by_first_byte (b ∷ bs) ne =
-    elim (eqb b 10) as (λ (t : Bool). t ≡ eqb (length (cond t [] (b ∷ leading_line bs))) 0) [
-      | true ↦ refl
-      | false ↦ sym (ne_eqb (length (b ∷ leading_line bs)) 0 (λ (e : length (b ∷ leading_line bs) ≡ 0). omega arith))
-    ]
-
 -- the next field, and those after it
 module _ (left : List ℕ) (some : 0 < length (leading_line left)) where
   one : drop 1 (leading_line left) ≡ leading_line (drop 1 left)
@@ -164,12 +169,6 @@ front_more b bs is = cond-true (is_digit b) (b ∷ digits_front bs) [] is
 front_none : (b : ℕ) (bs : List ℕ) → is_digit b ≡ false → digits_front (b ∷ bs) ≡ []
 front_none b bs is = cond-false (is_digit b) (b ∷ digits_front bs) [] is
 
-pub front_on : (bs : List ℕ) (i : ℕ) → i < length bs → true ≡ is_digit (get_or bs i 0) → digits_front (drop i bs) ≡ get_or bs i 0 ∷ digits_front (drop (i + 1) bs)
-front_on bs i l is = at_drop_more digits_front bs i 0 l ∙ front_more (get_or bs i 0) (drop (i + 1) bs) (sym is)
-
-pub front_here : (bs : List ℕ) (i : ℕ) → i < length bs → false ≡ is_digit (get_or bs i 0) → digits_front (drop i bs) ≡ []
-front_here bs i l is = at_drop_more digits_front bs i 0 l ∙ front_none (get_or bs i 0) (drop (i + 1) bs) (sym is)
-
 abbrev Split : List ℕ → List ℕ → Type 0
 Split bs d = first_field bs ≡ d ++ first_field (drop (length d) bs)
 
@@ -193,7 +192,7 @@ front_digits (b ∷ bs) =
     (λ (t : is_digit b ≡ false). ap all_digits (front_none b bs t))
     (cases_Bool (is_digit b))
 
-length_front : (bs : List ℕ) → length (digits_front bs) ≤ length bs
+pub length_front : (bs : List ℕ) → length (digits_front bs) ≤ length bs
 length_front [] = omega arith
 length_front (b ∷ bs) =
     let others = length_front bs in
@@ -219,36 +218,13 @@ not_all_digits (b ∷ d) x ys is = and_right (is_digit b) (all_digits (d ++ x �
 no_number : (f : List ℕ) → (has_shape f && all_digits f) ≡ false → number f ≡ None
 no_number f e = cond-false (has_shape f && all_digits f) (Some (value_after 0 f)) None e
 
-and_true : (t : Bool) → (t && true) ≡ t
-and_true true = refl
-and_true false = refl
-
-abbrev some_number : ℕ → Option ℕ
+abbrev pub some_number : ℕ → Option ℕ
 some_number n = Some n
-
-abbrev leads_with : (len first : ℕ) → Bool
-leads_with len b = leb 1 len && (eqb len 1 || not (eqb b 48))
-
-front_first : (bs : List ℕ) → 0 < length (digits_front bs) → get_or (digits_front bs) 0 0 ≡ get_or bs 0 0
-front_first [] l = refl
-front_first (b ∷ bs) l =
-    (elim (is_digit b) as (λ (t : Bool). 0 < length (cond t (b ∷ digits_front bs) []) → get_or (cond t (b ∷ digits_front bs) []) 0 0 ≡ b) [
-      | true ↦ λ (m : 0 < length (b ∷ digits_front bs)). refl
-      | false ↦ λ (m : 0 < length {A = ℕ} []). absurd (let z = m in omega arith)
-    ])
-    l
 
 -- the number of the first field, by the digits at its front
 module _ (bs : List ℕ) where
   abbrev d : List ℕ
   d = digits_front bs
-
-  pub too_many_digits : 13 < length d → number (first_field bs) ≡ None
-  too_many_digits long =
-      let f = first_field bs in
-      let more : 13 < length f = omega (arith, ap length (front_split bs), length-append d (first_field (drop (length d) bs))) in
-      no_number f
-      (and_left (has_shape f) (all_digits f) (and_left (leb 1 (length f) && leb (length f) 13) (eqb (length f) 1 || not (eqb (get_or f 0 0) 48)) (and_right (leb 1 (length f)) (leb (length f) 13) (lt-leb (length f) 13 more))))
 
   pub goes_on : (len : ℕ) → len ≡ length d → false ≡ (leb (length bs) len || is_stop (get_or bs len 0)) → number (first_field bs) ≡ None
   goes_on len same is =
@@ -282,31 +258,13 @@ module _ (bs : List ℕ) where
     pub field_length : length (first_field bs) ≡ len
     field_length = ap length all_of_it ∙ sym same
 
-    shape : (r : Bool) → len ≤ 13 → r ≡ leads_with len (get_or bs 0 0) → has_shape d ≡ r
-    shape r few is =
-        let all : leb (length d) 13 ≡ true = le-leb (length d) 13 (omega arith) in
-        ⊎_elim
-        (λ (z : len ≡ 0).
-        let none : d ≡ [] = nil_from_length d (omega arith) in
-        ap has_shape none ∙ sym (is ∙ ap (λ (n : ℕ). leads_with n (get_or bs 0 0)) z))
-        (λ (z : len ≡ 0 → ⊥).
-        let first : get_or d 0 0 ≡ get_or bs 0 0 = front_first bs (omega arith) in
-        ap (λ (t : Bool). (leb 1 (length d) && t) && (eqb (length d) 1 || not (eqb (get_or d 0 0) 48))) all
-        ∙ ap (λ (n : ℕ). (leb 1 (length d) && true) && (eqb (length d) 1 || not (eqb n 48))) first
-        ∙ ap (λ (n : ℕ). (leb 1 n && true) && (eqb n 1 || not (eqb (get_or bs 0 0) 48))) (sym same)
-        ∙ ap (λ (t : Bool). t && (eqb len 1 || not (eqb (get_or bs 0 0) 48))) (and_true (leb 1 len))
-        ∙ sym is)
-        (cases_eq len 0)
+    pub bad_shape : false ≡ has_shape d → number (first_field bs) ≡ None
+    bad_shape is = ap number all_of_it ∙ no_number d (and_left (has_shape d) (all_digits d) (sym is))
 
-    pub bad_lead : len ≤ 13 → false ≡ leads_with len (get_or bs 0 0) → number (first_field bs) ≡ None
-    bad_lead few is =
-        ap number all_of_it ∙ no_number d (and_left (has_shape d) (all_digits d) (shape false few is))
-
-    pub good_number : (value : ℕ) → len ≤ 13 → true ≡ leads_with len (get_or bs 0 0) → value ≡ value_after 0 d → number (first_field bs) ≡ Some value
-    good_number value few is v =
+    pub good_number : true ≡ has_shape d → number (first_field bs) ≡ Some (value_after 0 d)
+    good_number is =
         ap number all_of_it
-        ∙ cond-true (has_shape d && all_digits d) (Some (value_after 0 d)) None (and_from (has_shape d) (all_digits d) (shape true few is) (front_digits bs))
-        ∙ ap some_number (sym v)
+        ∙ cond-true (has_shape d && all_digits d) (Some (value_after 0 d)) None (and_from (has_shape d) (all_digits d) (sym is) (front_digits bs))
 
 -- the letter
 field_kind : (text : List ℕ) → kind_named (get_or (fields (leading_line text)) 0 []) ≡ kind_named (first_field text)

@@ -1,13 +1,12 @@
 -- A reader, line by line, and what is left to read.
 -- Assumes nothing.
 use Rattle.std.proofs.Common.{◌≡◌, ℕ, ◌+◌, ◌<◌, Bool, true, false, cond, leb, List, [], ◌∷◌, length, Some, None, Ok, Err, Option, Result, sym, refl, ap, ◌∙◌, arith}
-use Rattle.std.proofs.lemmas.List.{nil_from_length}
 use Rattle.playlist.specs.Collections.{Records, after, collected_in}
 use Rattle.playlist.specs.Entries.{Good, continued, fault_in, judged, put_first, reading, reading_from}
 use Rattle.playlist.specs.Forms.{Entry}
 use Rattle.playlist.specs.Meanings.{meant}
 use Rattle.playlist.specs.Orders.{may_end}
-use Rattle.playlist.specs.Stands.{Stand, first_stand, given, gives, moves, next_entry, next_stand, passed, reading_on, told_line}
+use Rattle.playlist.specs.Stands.{Stand, first_stand, given, gives, moves, next_entry, next_stand, passed, reading_on, told}
 use Rattle.playlist.specs.Texts.{lines}
 use Rattle.playlist.specs.declared.fault.Fault.{Fault}
 use Rattle.playlist.specs.declared.line.Line.{Line}
@@ -22,29 +21,6 @@ fault_at n = Err (record { line = n; field = 0 })
 
 abbrev stand : ℕ → Place → List (List ℕ) → Stand
 stand n place ls = record { line = n; place = place; left = ls }
-
-module _ (n : ℕ) (place : Place) (rest : List ℕ) (none : length rest ≡ 0) where
-  no_lines : lines rest ≡ []
-  no_lines = ap lines (nil_from_length rest none)
-
-  pub at_end : true ≡ may_end place → gives n place (lines rest) ≡ Ok None
-  at_end may = ap (gives n place) no_lines ∙ ap (ends n) (sym may)
-
-  pub cut_short : false ≡ may_end place → gives n place (lines rest) ≡ Err (record { line = n; field = 0 })
-  cut_short may = ap (gives n place) no_lines ∙ ap (ends n) (sym may)
-
-  pub stays : stand n place (lines rest) ≡ moves n place (lines rest)
-  stays = ap (λ (ls : List (List ℕ)). stand n place ls) no_lines ∙ sym (ap (moves n place) no_lines)
-
-abbrev told_ok : Option Line → Result (Option Entry) Fault
-told_ok o = Ok (told_line o)
-
--- what the code gave
-pub gave_line : (o : Option Line) (line : Line) (s : Stand) → o ≡ Some line → told_ok o ≡ next_entry s → Ok (Some (meant line)) ≡ next_entry s
-gave_line o line s e is = sym (ap told_ok e) ∙ is
-
-pub gave_none : (o : Option Line) (s : Stand) → o ≡ None → told_ok o ≡ next_entry s → Ok None ≡ next_entry s
-gave_none o s e is = sym (ap told_ok e) ∙ is
 
 abbrev Judged : Type 0
 Judged = Result Good ℕ
@@ -81,21 +57,6 @@ same_records : (r : Records) (e : Entry) (x : Result (List Entry) Fault) → col
 same_records r e (Ok entries) = refl
 same_records r e (Err fault) = refl
 
-module _ (s s' : Stand) (e : Entry) (is : Ok (Some e) ≡ next_entry s) (on : s' ≡ next_stand s) where
-  pub read_one : reading_on s ≡ put_first e (reading_on s')
-  read_one =
-      good_next s.line s.place e s.left (sym is) ∙ ap (λ (x : Stand). put_first e (reading_on x)) (sym on)
-
-  pub one_less : length s'.left < length s.left
-  one_less = omega (arith, ap (λ (x : Stand). length x.left) on, shorter_next s.line s.place e s.left (sym is))
-
-  pub fault_goes_on : fault_in (reading_on s') ≡ fault_in (reading_on s)
-  fault_goes_on = sym (ap fault_in read_one ∙ same_fault e (reading_on s'))
-
-  pub records_go_on : (r r' : Records) → r' ≡ after r e → collected_in r' (reading_on s') ≡ collected_in r (reading_on s)
-  records_go_on r r' put =
-      ap (λ (x : Records). collected_in x (reading_on s')) put ∙ same_records r e (reading_on s') ∙ sym (ap (collected_in r) read_one)
-
 -- the end, and a fault
 module _ (n : ℕ) (place : Place) where
   end_may : (may : Bool) → ends n may ≡ Ok None → cond may (Ok []) (fault_at n) ≡ Ok []
@@ -122,11 +83,34 @@ module _ (n : ℕ) (place : Place) where
   fault_next fault [] is = short_may fault (may_end place) is
   fault_next fault (l ∷ ls) is = bad_line fault (λ (p : Place). reading_from (n + 1) p ls) (judged place l) is
 
-pub read_end : (s : Stand) → Ok None ≡ next_entry s → reading_on s ≡ Ok []
-read_end s is = end_next s.line s.place s.left (sym is)
+-- what the code gave at a stand
+module _ (r : Result (Option Line) Fault) (s : Stand) (gave : told r ≡ next_entry s) where
+  pub read_end : r ≡ Ok None → reading_on s ≡ Ok []
+  read_end is = end_next s.line s.place s.left (sym gave ∙ ap told is)
 
-pub read_fault : (s : Stand) (fault : Fault) → Err fault ≡ next_entry s → reading_on s ≡ Err fault
-read_fault s fault is = fault_next s.line s.place fault s.left (sym is)
+  pub read_fault : (fault : Fault) → r ≡ Err fault → reading_on s ≡ Err fault
+  read_fault fault is = fault_next s.line s.place fault s.left (sym gave ∙ ap told is)
+
+  -- a line, and the stand after it
+  module _ (s' : Stand) (on : s' ≡ next_stand s) (line : Line) (is : r ≡ Ok (Some line)) where
+    this_line : next_entry s ≡ Ok (Some (meant line))
+    this_line = sym gave ∙ ap told is
+
+    pub read_one : reading_on s ≡ put_first (meant line) (reading_on s')
+    read_one =
+        good_next s.line s.place (meant line) s.left this_line ∙ ap (λ (x : Stand). put_first (meant line) (reading_on x)) (sym on)
+
+    pub one_less : length s'.left < length s.left
+    one_less = omega (arith, ap (λ (x : Stand). length x.left) on, shorter_next s.line s.place (meant line) s.left this_line)
+
+    pub fault_goes_on : fault_in (reading_on s') ≡ fault_in (reading_on s)
+    fault_goes_on = sym (ap fault_in read_one ∙ same_fault (meant line) (reading_on s'))
+
+    pub records_go_on : (q q' : Records) → q' ≡ after q (meant line) → collected_in q' (reading_on s') ≡ collected_in q (reading_on s)
+    records_go_on q q' put =
+        ap (λ (x : Records). collected_in x (reading_on s')) put
+        ∙ same_records q (meant line) (reading_on s')
+        ∙ sym (ap (collected_in q) read_one)
 
 -- the whole text is what a new reader has left
 pub reading_first : (text : List ℕ) → reading_on (first_stand text) ≡ reading text

@@ -1,6 +1,6 @@
 -- The records of a text, each kind in its own list.
 -- Assumes nothing.
-use Rattle.std.specs.Prelude.{ℕ, List, [], ◌∷◌, ◌++◌, Ok, Err, vec_items, Result}
+use Rattle.std.specs.Prelude.{◌≡◌, ℕ, List, [], ◌∷◌, ◌++◌, Ok, Err, vec_items, Result}
 use Rattle.call.specs.declared.calls.Call.{Call}
 use Rattle.call.specs.declared.opening.SettingNumbers.{SettingNumbers}
 use Rattle.call.specs.declared.opening.Subscriber.{Subscriber}
@@ -9,6 +9,8 @@ use Rattle.playlist.specs.Entries.{reading}
 use Rattle.playlist.specs.Forms.{Entry}
 use Rattle.playlist.specs.Forms.Entry.{settings, role, mobile, call, note}
 use Rattle.playlist.specs.declared.fault.Fault.{Fault}
+use Rattle.playlist.specs.declared.read_error.ReadError.{ReadError}
+use Rattle.playlist.specs.declared.read_error.ReadError.TheVariants as errors
 use Rattle.playlist.specs.declared.records.Playlist.{Playlist}
 
 pub record Records : Type 0 where
@@ -62,6 +64,8 @@ held p =
       calls = vec_items p.calls;
     }
 
-abbrev pub held_in : Result Playlist Fault → Result Records Fault
-held_in (Ok p) = Ok (held p)
-held_in (Err fault) = Err fault
+-- what the code gives of a text that has these records or this fault; only memory can be wanting besides
+abbrev pub ReadAs : Result Records Fault → Result Playlist ReadError → Type 0
+ReadAs is (Ok p) = is ≡ Ok (held p)
+ReadAs is (Err (errors.Fault fault)) = is ≡ Err fault
+ReadAs is (Err (errors.Memory failed)) = Unit {0}

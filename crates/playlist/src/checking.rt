@@ -1,36 +1,24 @@
 // Whether a text is a playlist.
 ghost use Rattle.std.specs.Prelude.{◌≡◌};
-ghost use Rattle.playlist.specs.Entries.{fault_in, fault_of, reading};
+ghost use Rattle.std.specs.Result.{result_err};
+ghost use Rattle.playlist.specs.Entries.{fault_in, fault_of};
 ghost use Rattle.playlist.specs.Stands.{reading_on, stand_of};
 
 use super::fault::Fault;
 use super::reader::Reader;
 
-// The first fault of the text, if it has one.
+// The first fault of the text, if it has one: what is asked for, and so an Option.
+#[tactic(auto, using(crate::proofs::Standings::reading_first))]
 pub fn check(text: &[u8]) -> Option<Fault>
     ensures { result ≡ fault_of text.now }
 {
-    first_fault(start(text))
+    read_through(Reader::new(text)).err()
 }
 
-// A reader before the first line.
-pub(crate) fn start<'a>(text: &'a [u8]) -> Reader<'a>
-    ensures { reading_on (stand_of result) ≡ reading text.now }
+// Reads all lines, up to a fault.
+fn read_through(mut reader: Reader<'_>) -> Result<(), Fault>
+    ensures { result_err result ≡ fault_in (reading_on (stand_of reader.entry)) }
 {
-    Reader::new(text)
-}
-
-fn first_fault<'a>(reader: Reader<'a>) -> Option<Fault>
-    ensures { result ≡ fault_in (reading_on (stand_of reader.entry)) }
-{
-    let mut reader = reader;
-    loop {
-        match reader.next() {
-            Ok(next) => match next {
-                Some(_line) => {}
-                None => return None,
-            },
-            Err(fault) => return Some(fault),
-        }
-    }
+    while let Some(_line) = reader.next()? {}
+    Ok(())
 }

@@ -1,23 +1,26 @@
 // A text read into its records.
 ghost use Rattle.std.specs.Prelude.{◌≡◌, IfOk, OnOk};
-ghost use Rattle.playlist.specs.Collections.{after, collected_in, held, held_in, no_records, playlist_of};
+ghost use Rattle.playlist.specs.Collections.{ReadAs, after, held, no_records, playlist_of};
 ghost use Rattle.playlist.specs.Meanings.{meant};
-ghost use Rattle.playlist.specs.Stands.{reading_on, stand_of};
 
-use super::checking::start;
-use super::fault::Fault;
 use super::line::Line;
+use super::read_error::ReadError;
 use super::reader::Reader;
 use super::records::Playlist;
 use call::SettingNumbers;
 use std::alloc::{AllocError, Global};
 
 // The records of the text, or its first fault. Memory is asked for once for each list, for as many as the text has room for.
-pub fn read(heap: Global, text: &[u8]) -> Result<Result<Playlist, Fault>, AllocError>
-    ensures { IfOk result (λ answer. held_in answer ≡ playlist_of text.now) }
+#[tactic(auto, using(crate::proofs::Standings::reading_first))]
+pub fn read(heap: Global, text: &[u8]) -> Result<Playlist, ReadError>
+    ensures { ReadAs (playlist_of text.now) result }
 {
-    let playlist = empty(heap, text.len())?;
-    collect(playlist, start(text))
+    let mut playlist = empty(heap, text.len())?;
+    let mut reader = Reader::new(text);
+    while let Some(line) = reader.next()? {
+        put(&mut playlist, line)?;
+    }
+    Ok(playlist)
 }
 
 // No records yet, and room for those of a text of so many bytes: a call has at least four, a mobile eight.
@@ -30,39 +33,14 @@ fn empty(heap: Global, bytes: usize) -> Result<Playlist, AllocError>
     let calls = Vec::with_capacity(heap, (bytes / 4 + 1).min(4096))?;
     Ok(Playlist {
         stations: 0,
-        settings: SettingNumbers {
-            period: 0,
-            t3128: 0,
-            t3130: 0,
-            link: 0,
-        },
+        settings: SettingNumbers::default(),
         roles,
         subscribers,
         calls,
     })
 }
 
-// The records so far, and those that the reader has left.
-fn collect<'a>(
-    playlist: Playlist,
-    reader: Reader<'a>,
-) -> Result<Result<Playlist, Fault>, AllocError>
-    ensures { IfOk result (λ answer. held_in answer ≡ collected_in (held playlist) (reading_on (stand_of reader.entry))) }
-{
-    let mut playlist = playlist;
-    let mut reader = reader;
-    loop {
-        match reader.next() {
-            Ok(next) => match next {
-                Some(line) => put(&mut playlist, line)?,
-                None => return Ok(Ok(playlist)),
-            },
-            Err(fault) => return Ok(Err(fault)),
-        }
-    }
-}
-
-fn put<'a>(playlist: &mut Playlist, line: Line<'a>) -> Result<(), AllocError>
+fn put(playlist: &mut Playlist, line: Line<'_>) -> Result<(), AllocError>
     ensures { OnOk result (held playlist.new ≡ after (held playlist.old) (meant line.entry)) }
 {
     match line {

@@ -1,4 +1,4 @@
-// The letters of the kinds, and the numbers that each kind asks for.
+// The letters of the kinds, and the numbers that each kind asks for. A letter that is none gives no kind, with no error that a TryFrom would need.
 ghost use Rattle.std.specs.Prelude.{◌≡◌};
 ghost use Rattle.playlist.specs.Forms.{call_letter, letter, number_count, limit};
 
@@ -12,10 +12,7 @@ pub(crate) fn kind_by(byte: u8) -> Option<Kind>
         'S' => Some(Kind::Settings),
         'K' => Some(Kind::Role),
         'M' => Some(Kind::Mobile),
-        _ => match call_kind_by(letter) {
-            Some(kind) => Some(Kind::Call(kind)),
-            None => None,
-        },
+        _ => call_kind_by(letter).map(Kind::Call),
     }
 }
 
@@ -38,7 +35,7 @@ fn call_kind_by(letter: char) -> Option<CallKind>
 }
 
 // How many numbers follow the letter.
-pub(crate) fn number_count(kind: Kind) -> usize
+pub(crate) fn number_count(kind: Kind) -> u8
     ensures { result ≡ number_count kind }
 {
     match kind {

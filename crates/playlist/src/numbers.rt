@@ -2,54 +2,56 @@
 ghost use Rattle.std.specs.Prelude.{◌≡◌, ◌≤◌, not, ◌&&◌, ◌||◌, [], length, take, drop, if◌then◌else◌, Some, None, Ok, Err, MatchOption, MatchResult, ◌==◌, nat_eq, nat_le, slice_index};
 ghost use Rattle.playlist.specs.Entries.{counted, number_in};
 ghost use Rattle.playlist.specs.Forms.{number_count};
+ghost use Rattle.playlist.specs.Meanings.{field_of};
 ghost use Rattle.playlist.specs.Scans.{after_line, fields_after, first_field, leading_line};
-ghost use Rattle.playlist.specs.Texts.{number};
+ghost use Rattle.playlist.specs.Texts.{has_shape, number};
 
-use super::bytes::{at_line_end, digit_run, first_line, rest, skip, stops};
+use super::bytes::{at_line_end, digits_front, first_line, rest, skip, stops, tabs, value_of};
 use super::kind::Kind;
 use super::letters::{limit, number_count};
+use super::line_fault::LineFault;
+use arrayvec::ArrayVec;
 
-#[derive(Clone, Copy)]
+#[derive(Drop)]
 pub(crate) struct Numbers<'a> {
-    pub values: [u64; 5],
+    pub values: ArrayVec<u64, 5>,
     // from the byte that ends the line
     pub rest: &'a [u8],
 }
 
-// The numbers in order, as many as the kind asks for, or the field of the fault. `line` is what follows the letter.
-pub(crate) fn read_numbers<'a>(kind: Kind, line: &'a [u8]) -> Result<Numbers<'a>, u8>
+// The numbers in order, as many as the kind asks for, or the fault. `line` is what follows the letter.
+pub(crate) fn read_numbers<'a>(kind: Kind, line: &'a [u8]) -> Result<Numbers<'a>, LineFault>
     requires { first_field line.now ≡ [] }
-    ensures { MatchResult result (λ ns. (counted kind (fields_after (leading_line line.now)) ≡ Ok (take (number_count kind) ns.values)) × (ns.rest.now ≡ after_line line.now)) (λ field. counted kind (fields_after (leading_line line.now)) ≡ Err field) }
+    ensures { MatchResult result (λ ns. (counted kind (fields_after (leading_line line.now)) ≡ Ok ns.values.items) × (length ns.values.items ≡ number_count kind) × (ns.rest.now ≡ after_line line.now)) (λ fault. counted kind (fields_after (leading_line line.now)) ≡ Err (field_of fault)) }
 {
-    let mut values = [0; 5];
+    let mut values = ArrayVec::new();
     let mut left = line;
-    for i in 0..number_count(kind) {
+    for field in 2..2 + number_count(kind) {
         if at_line_end(left) {
-            return Err(0);
+            return Err(LineFault::Form);
         }
-        let field = i as u8 + 2;
+        // no ok_or_else: its closure would be as long, and the fault is judged over the whole line
         let Some(number) = read_number(kind, field, left) else {
-            return Err(bad_field(kind, field, line));
+            return Err(bad_number(kind, field, line));
         };
-        values[i] = number.value;
+        values.push(number.value);
         left = number.rest;
     }
     if !at_line_end(left) {
-        return Err(0);
+        return Err(LineFault::Form);
     }
     Ok(Numbers { values, rest: left })
 }
 
-// The field of a bad number, or 0 where the count of fields is wrong.
-fn bad_field(kind: Kind, field: u8, line: &[u8]) -> u8
+// A bad number in the field, or the form where the count of fields is wrong.
+fn bad_number(kind: Kind, field: u8, line: &[u8]) -> LineFault
     requires { first_field line.now ≡ [] }
-    ensures { result ≡ (if nat_eq (length (fields_after (leading_line line.now))) (number_count kind) then field else 0) }
+    ensures { field_of result ≡ (if nat_eq (length (fields_after (leading_line line.now))) (number_count kind) then field else 0) }
 {
-    let span = first_line(line);
-    if span.tabs == number_count(kind) {
-        field
+    if tabs(first_line(line)) == usize::from(number_count(kind)) {
+        LineFault::Number(field)
     } else {
-        0
+        LineFault::Form
     }
 }
 
@@ -64,36 +66,33 @@ struct Number<'a> {
 fn read_number<'a>(kind: Kind, field: u8, left: &'a [u8]) -> Option<Number<'a>>
     ensures { MatchOption result (number_in kind field (first_field (drop 1 left.now)) ≡ None) (λ n. (number_in kind field (first_field (drop 1 left.now)) ≡ Some n.value) × (n.rest.now ≡ drop (length (first_field (drop 1 left.now))) (drop 1 left.now))) }
 {
-    match cut_number(rest(left)) {
-        Some(number) if number.value <= limit(kind, field) => Some(number),
-        _ => None,
-    }
+    cut_number(rest(left)).filter(|number| number.value <= limit(kind, field))
 }
 
 // The number of the first field, if it is one.
 fn cut_number<'a>(bytes: &'a [u8]) -> Option<Number<'a>>
     ensures { MatchOption result (number (first_field bytes.now) ≡ None) (λ n. (number (first_field bytes.now) ≡ Some n.value) × (n.rest.now ≡ drop (length (first_field bytes.now)) bytes.now)) }
 {
-    let Some(digits) = digit_run(bytes) else {
-        return None;
-    };
-    let len = digits.len;
-    if !stops(bytes, len) {
+    let digits = digits_front(bytes);
+    if !stops(bytes, digits.len()) {
         return None;
     }
-    if !leads(bytes, len) {
+    if !has_shape(digits) {
         return None;
     }
     Some(Number {
-        value: digits.value,
-        rest: skip(bytes, len),
+        value: value_of(digits),
+        rest: skip(bytes, digits.len()),
     })
 }
 
-// Some digits, of which the first is 0 only where it is the only one.
-fn leads(bytes: &[u8], len: usize) -> bool
-    requires { len ≤ length bytes.now }
-    ensures { result ≡ (nat_le 1 len && (len == 1 || not (slice_index bytes.now 0 == 48))) }
+// Whether there are 1 to 13, of which the first is 0 only where it is the only one.
+fn has_shape(digits: &[u8]) -> bool
+    ensures { result ≡ has_shape digits.now }
 {
-    len == 1 || len > 1 && bytes[0] != b'0'
+    match digits {
+        [] => false,
+        [_] => true,
+        [first, ..] => *first != b'0' && digits.len() <= 13,
+    }
 }

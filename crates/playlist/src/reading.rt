@@ -1,8 +1,8 @@
 // A line read at its place.
 ghost use Rattle.std.specs.Prelude.{◌≡◌, ◌<◌, true, [], ◌∷◌, length, drop, is_some, Some, Ok, Err, MatchResult, slice_index, slice_index_or};
 ghost use Rattle.playlist.specs.Entries.{entry_in, judged};
-ghost use Rattle.playlist.specs.Forms.{InLimits, call_of, entry_of, kind_named};
-ghost use Rattle.playlist.specs.Meanings.{good_of, meant};
+ghost use Rattle.playlist.specs.Forms.{InLimits, call_numbers, call_of, entry_of, kind_named, number_count};
+ghost use Rattle.playlist.specs.Meanings.{field_of, good_of, meant};
 ghost use Rattle.playlist.specs.Scans.{after_line, first_field, leading_line};
 ghost use Rattle.playlist.specs.Texts.{fields, lines};
 
@@ -10,6 +10,7 @@ use super::bytes::{first_line, rest, skip, stops};
 use super::kind::{CallKind, Kind};
 use super::letters::kind_by;
 use super::line::Line;
+use super::line_fault::LineFault;
 use super::numbers::read_numbers;
 use super::order::place_after;
 use super::place::Place;
@@ -17,43 +18,38 @@ use super::standing::Standing;
 use call::{Call, SettingNumbers, Subscriber};
 use schemes::Role;
 
-// The first line of a text at its place: good, or the field of its fault.
-pub(crate) fn read_line<'a>(place: Place, text: &'a [u8]) -> Result<Standing<'a>, u8>
+// The first line of a text at its place: good, or its fault.
+#[tactic(auto, using(crate::proofs::Judging::line_and_others, crate::proofs::Judging::fewer_left))]
+pub(crate) fn read_line<'a>(place: Place, text: &'a [u8]) -> Result<Standing<'a>, LineFault>
     requires { 0 < length text.now }
-    ensures line { MatchResult result (λ standing. (judged place (leading_line text.now) ≡ Ok (good_of standing)) × (standing.rest.now ≡ drop 1 (after_line text.now))) (λ field. judged place (leading_line text.now) ≡ Err field) }
+    ensures line { MatchResult result (λ standing. (judged place (leading_line text.now) ≡ Ok (good_of standing)) × (standing.rest.now ≡ drop 1 (after_line text.now))) (λ fault. judged place (leading_line text.now) ≡ Err (field_of fault)) }
     ensures parts { lines text.now ≡ leading_line text.now ∷ lines (drop 1 (after_line text.now)) }
     ensures shorter { length (drop 1 (after_line text.now)) < length text.now }
 {
     if text[0] == b'#' {
         return Ok(read_note(place, text));
     }
-    let Some(kind) = kind_of(text) else {
-        return Err(1);
-    };
-    let Some(place) = place_after(place, kind) else {
-        return Err(0);
-    };
-    match read_kind(kind, text) {
-        Ok(read) => Ok(Standing {
-            line: read.line,
-            place,
-            rest: read.rest,
-        }),
-        Err(field) => Err(field),
-    }
+    let kind = kind_of(text).ok_or(LineFault::Letter)?;
+    let place = place_after(place, kind).ok_or(LineFault::Form)?;
+    let read = read_kind(kind, text)?;
+    Ok(Standing {
+        line: read.line,
+        place,
+        rest: read.rest,
+    })
 }
 
+#[tactic(auto, using(crate::proofs::Parting::length_before))]
 fn read_note<'a>(place: Place, text: &'a [u8]) -> Standing<'a>
     requires { (0 < length text.now) × (slice_index text.now 0 ≡ 35) }
     ensures line { judged place (leading_line text.now) ≡ Ok (good_of result) }
     ensures rest { result.rest.now ≡ drop 1 (after_line text.now) }
 {
-    let span = first_line(text);
-    let len = span.len;
+    let line = first_line(text);
     Standing {
-        line: Line::Note(rest(&text[0..len])),
+        line: Line::Note(rest(line)),
         place,
-        rest: rest(skip(text, len)),
+        rest: rest(skip(text, line.len())),
     }
 }
 
@@ -77,24 +73,21 @@ struct Lettered<'a> {
 }
 
 // A line of the kind.
-fn read_kind<'a>(kind: Kind, text: &'a [u8]) -> Result<Lettered<'a>, u8>
+fn read_kind<'a>(kind: Kind, text: &'a [u8]) -> Result<Lettered<'a>, LineFault>
     requires { (Some kind ≡ kind_named (slice_index_or (fields (leading_line text.now)) 0 [])) × (first_field (drop 1 text.now) ≡ []) }
-    ensures { MatchResult result (λ read. (entry_in kind (drop 1 (fields (leading_line text.now))) ≡ Ok (meant read.line)) × (read.rest.now ≡ drop 1 (after_line text.now))) (λ field. entry_in kind (drop 1 (fields (leading_line text.now))) ≡ Err field) }
+    ensures { MatchResult result (λ read. (entry_in kind (drop 1 (fields (leading_line text.now))) ≡ Ok (meant read.line)) × (read.rest.now ≡ drop 1 (after_line text.now))) (λ fault. entry_in kind (drop 1 (fields (leading_line text.now))) ≡ Err (field_of fault)) }
 {
-    match read_numbers(kind, rest(text)) {
-        Ok(numbers) => {
-            let values = numbers.values;
-            Ok(Lettered {
-                line: line_of(kind, &values),
-                rest: rest(numbers.rest),
-            })
-        }
-        Err(field) => Err(field),
-    }
+    let numbers = read_numbers(kind, rest(text))?;
+    Ok(Lettered {
+        line: line_of(kind, &numbers.values),
+        rest: rest(numbers.rest),
+    })
 }
 
-fn line_of<'a>(kind: Kind, values: &[u64; 5]) -> Line<'a>
-    requires { InLimits kind values.now }
+// No From: the numbers are as many as the kind asks for, and within its limits.
+fn line_of<'a>(kind: Kind, values: &[u64]) -> Line<'a>
+    requires count { length values.now ≡ number_count kind }
+    requires limits { InLimits kind values.now }
     ensures { meant result ≡ entry_of kind values.now }
 {
     match kind {
@@ -120,27 +113,47 @@ fn line_of<'a>(kind: Kind, values: &[u64; 5]) -> Line<'a>
     }
 }
 
-fn call_of(kind: CallKind, values: &[u64; 5]) -> Call
-    requires { InLimits (Kind.Call kind) values.now }
+fn call_of(kind: CallKind, values: &[u64]) -> Call
+    requires count { length values.now ≡ call_numbers kind }
+    requires limits { InLimits (Kind.Call kind) values.now }
     ensures { result ≡ call_of kind values.now }
 {
     let time = values[0];
-    let mobile = values[1];
-    let station = values[1];
     match kind {
         CallKind::Ask => Call::Ask {
             time,
-            mobile,
+            mobile: values[1],
             reference: values[2] as u16,
             rank: values[3],
         },
-        CallKind::Finish => Call::Finish { time, mobile },
-        CallKind::MobileHears => Call::MobileHears { time, mobile },
-        CallKind::MobileTimer => Call::MobileTimer { time, mobile },
-        CallKind::StationHearsAir => Call::StationHearsAir { time, station },
-        CallKind::StationHearsWire => Call::StationHearsWire { time, station },
-        CallKind::StationTimer => Call::StationTimer { time, station },
-        CallKind::RadioLoss => Call::RadioLoss { time, station },
+        CallKind::Finish => Call::Finish {
+            time,
+            mobile: values[1],
+        },
+        CallKind::MobileHears => Call::MobileHears {
+            time,
+            mobile: values[1],
+        },
+        CallKind::MobileTimer => Call::MobileTimer {
+            time,
+            mobile: values[1],
+        },
+        CallKind::StationHearsAir => Call::StationHearsAir {
+            time,
+            station: values[1],
+        },
+        CallKind::StationHearsWire => Call::StationHearsWire {
+            time,
+            station: values[1],
+        },
+        CallKind::StationTimer => Call::StationTimer {
+            time,
+            station: values[1],
+        },
+        CallKind::RadioLoss => Call::RadioLoss {
+            time,
+            station: values[1],
+        },
         CallKind::AnchorHears => Call::AnchorHears { time },
         CallKind::Release => Call::Release { time },
     }

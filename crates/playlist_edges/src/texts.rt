@@ -171,18 +171,11 @@ fn long_texts(rt: HostRuntime) {
 #[test]
 fn records(rt: HostRuntime) -> Result<(), Fail> {
     let text = b"#\nS\t8\t10\t20\t30\t40\nM\t5\t3\t7\nA\t1\t2\t3\t4\nR\t5";
-    match read(rt.alloc(), text)? {
-        Ok(playlist) => {
-            assert_eq!(rt; playlist.stations, 8);
-            assert_eq!(rt; playlist.settings.link, 40);
-            assert_eq!(rt; playlist.roles.len(), 0);
-            assert_eq!(rt; playlist.subscribers.len(), 1);
-            assert_eq!(rt; playlist.calls.len(), 2);
-            Ok(())
-        }
-        Err(fault) => {
-            assert_eq!(rt; Some(fault), None);
-            Ok(())
-        },
-    }
+    let playlist = read(rt.alloc(), text)?;
+    assert_eq!(rt; playlist.stations, 8);
+    assert_eq!(rt; playlist.settings.link, 40);
+    assert_eq!(rt; playlist.roles.len(), 0);
+    assert_eq!(rt; playlist.subscribers.len(), 1);
+    assert_eq!(rt; playlist.calls.len(), 2);
+    Ok(())
 }

@@ -7,11 +7,11 @@ ghost use Rattle.playlist.specs.Forms.{Entry};
 ghost use Rattle.playlist.specs.Entries.{reading};
 ghost use Rattle.printer.specs.Playlists.{printed, printed_entries};
 
-use call::{Answer, Outcome};
-use playlist::{Playlist, Reader, read};
+use call::{Answer, CallSetup, Outcome};
+use playlist::{Playlist, ReadError, Reader, read};
 use printing::put_rows;
 use refused::{put_fault, put_refused};
-use session::play_session;
+use session::{SessionError, SessionPlan, play_session};
 use std::alloc::{AllocError, Global};
 
 mod printing;
@@ -23,9 +23,10 @@ pub fn print(heap: Global, text: &[u8]) -> Result<Vec<u8>, AllocError>
     ensures { IfOk result (λ out. out.items ≡ printed text.now) }
 {
     let mut out = Vec::with_capacity(heap, 4096)?;
-    match read(heap, text)? {
+    match read(heap, text) {
         Ok(playlist) => put_played(heap, &mut out, text, &playlist)?,
-        Err(fault) => put_fault(&mut out, &fault)?,
+        Err(ReadError::Fault(fault)) => put_fault(&mut out, &fault)?,
+        Err(ReadError::Memory(failed)) => return Err(failed),
     }
     Ok(out)
 }
@@ -40,23 +41,20 @@ fn put_played(
     ensures { OnOk result (((entries : List Entry) → reading text.now ≡ Ok entries → held playlist.now ≡ collected no_records entries → out.new.items ≡ out.old.items ++ printed_entries entries)) }
 {
     let reader = Reader::new(text);
-    match play_session(
-        heap,
-        &playlist.settings,
-        &playlist.subscribers,
-        &playlist.roles,
-        playlist.stations,
-        &playlist.calls,
-    )? {
-        Ok(answers) => put_rows(out, reader, &answers)?,
-        Err(refusal) => {
-            let refused = Answer {
-                outcome: Outcome::Refused(refusal),
-                kept: 0,
-                lost: 0,
-            };
-            put_refused(out, reader, &refused)?;
+    let plan = SessionPlan {
+        setup: CallSetup {
+            settings: playlist.settings,
+            subscribers: &playlist.subscribers,
+        },
+        roles: &playlist.roles,
+        stations: playlist.stations,
+        calls: &playlist.calls,
+    };
+    match play_session(heap, &plan) {
+        Ok(answers) => put_rows(out, reader, &answers),
+        Err(SessionError::Refused(refusal)) => {
+            put_refused(out, reader, &Answer::silent(Outcome::Refused(refusal)))
         }
+        Err(SessionError::Memory(failed)) => Err(failed),
     }
-    Ok(())
 }

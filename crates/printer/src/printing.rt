@@ -9,34 +9,27 @@ use call::{Answer, Outcome};
 use playlist::{Line, Reader};
 use std::alloc::AllocError;
 
-// The rows of all lines, with the answers of its calls.
-pub(crate) fn put_rows<'a>(
+// The rows of all lines, with the answers of its calls. The text was read before, so it has no fault.
+pub(crate) fn put_rows(
     out: &mut Vec<u8>,
-    reader: Reader<'a>,
+    mut reader: Reader<'_>,
     answers: &[Answer],
 ) -> Result<(), AllocError>
     ensures { OnOk result (Printed out.old.items out.new.items answers.now 0 (reading_on (stand_of reader.entry))) }
 {
-    let mut reader = reader;
-    let mut next: usize = 0;
-    loop {
-        match reader.next() {
-            Ok(read) => match read {
-                Some(line) => next = put_line(out, line, answers, next)?,
-                None => {
-                    put_opening_before(out, next)?;
-                    return Ok(());
-                }
-            },
-            Err(_fault) => return Ok(()),
-        }
+    // the calls printed so far, which are some of the lines
+    let mut next = 0;
+    while let Ok(Some(line)) = reader.next() {
+        next = put_line(out, line, answers, next)?;
     }
+    put_opening_before(out, next)
 }
 
 // The rows of a line, where `next` calls have been printed; it answers how many have been then.
-fn put_line<'a>(
+#[tactic(auto, using(crate::proofs::Walking::call_rows, crate::proofs::Walking::call_next, crate::proofs::Appends::onto))]
+fn put_line(
     out: &mut Vec<u8>,
-    line: Line<'a>,
+    line: Line<'_>,
     answers: &[Answer],
     next: usize,
 ) -> Result<usize, AllocError>
@@ -45,9 +38,9 @@ fn put_line<'a>(
     match line {
         Line::Note(bytes) => put_note(out, bytes)?,
         Line::Call(_) => {
-            if next < answers.len() {
+            if let Some(answer) = answers.get(next) {
                 put_opening_before(out, next)?;
-                put_answer(out, next as u64 + 1, &answers[next])?;
+                put_answer(out, next as u64 + 1, answer)?;
                 return Ok(next + 1);
             }
         }
@@ -60,12 +53,7 @@ fn put_opening_before(out: &mut Vec<u8>, next: usize) -> Result<(), AllocError>
     ensures { OnOk result (out.new.items ≡ out.old.items ++ opening_before next) }
 {
     if next == 0 {
-        let opened = Answer {
-            outcome: Outcome::Acted(0),
-            kept: 0,
-            lost: 0,
-        };
-        put_answer(out, 0, &opened)?;
+        put_answer(out, 0, &Answer::silent(Outcome::Acted(0)))?;
     }
     Ok(())
 }

@@ -14,6 +14,7 @@ use std::alloc::Global;
 pub struct Script {
     said: Vec<Message>,
     picks: Vec<usize>,
+    // how many were taken; no iterator, since the steps say by it how far the script is
     next: usize,
 }
 
@@ -33,15 +34,10 @@ impl Script {
     fn pick(&self, address: u16, place: usize) -> Option<Message>
         ensures { result ≡ picked address place self.now.said.items }
     {
-        if place >= self.said.len() {
-            return None;
-        }
-        let message = self.said[place];
-        if message.address == address {
-            Some(message)
-        } else {
-            None
-        }
+        self.said
+            .get(place)
+            .copied()
+            .filter(|message| message.address == address)
     }
 }
 
@@ -69,10 +65,7 @@ impl Carrier for Script {
     }
 
     fn hear(&mut self, address: u16, _listener: u16) -> Option<Message> {
-        if self.next >= self.picks.len() {
-            return None;
-        }
-        let place = self.picks[self.next];
+        let place = *self.picks.get(self.next)?;
         self.next += 1;
         self.pick(address, place)
     }

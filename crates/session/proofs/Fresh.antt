@@ -1,14 +1,15 @@
 -- A session on fresh tables: its answers and its guarantee, and that it is not refused.
 -- Assumes nothing.
-use Rattle.std.proofs.Common.{◌≡◌, ℕ, ◌≤◌, Bool, true, cond, List, length, take, replicate, IfOk, Some, None, Ok, Err, vec_items, vec_len, Option, Result, Vec, sym, ap, ◌∙◌, subst, arith, MatchResult}
+use Rattle.std.proofs.Common.{◌≡◌, ℕ, ◌≤◌, Bool, true, cond, List, length, take, replicate, Some, None, vec_items, vec_len, Option, Vec, sym, ap, ◌∙◌, subst, arith}
 use lib.ListN.{length-replicate}
 use Rattle.std.specs.Vec.{with_items}
 use Rattle.std.specs.declared.alloc.Global.{Global}
 use Rattle.std.proofs.lemmas.List.{with_items_is, take_all}
-use Rattle.std.proofs.lemmas.Result.{MatchResult-at_err, MatchResult-at_ok}
 use Rattle.std.proofs.lemmas.Bool.{le-leb}
 use Rattle.anchor.specs.Anchors.{no_entry}
+use Rattle.anchor.specs.declared.entry.End.TheVariants.{Stands}
 use Rattle.anchor.specs.declared.entry.Entry.{Entry}
+use Rattle.anchor.specs.declared.entry.Mark.TheVariants.{Preempts}
 use Rattle.call.specs.Openings.{Given, opening_check, refusal_at_opening}
 use Rattle.call.specs.declared.answer.Answer.{Answer}
 use Rattle.call.specs.declared.answer.Refusal.{Refusal}
@@ -21,13 +22,28 @@ use Rattle.dispatch.specs.Lent.{Untouched}
 use Rattle.dispatch.specs.declared.tables.LentTables.{LentTables}
 use Rattle.engine.specs.Conducts.{Guaranteed, conduct_refusal}
 use Rattle.engine.specs.Openings.{given_of}
+use Rattle.session.specs.Errors.{IfRefused}
 use Rattle.session.specs.Models.{all_answers}
 use Rattle.session.specs.Sessions.{Kept, fresh_book, given_for}
 use Rattle.session.specs.Settings.{first_model, frame_for}
+use Rattle.session.specs.declared.error.SessionError.{SessionError}
+use Rattle.session.specs.declared.error.SessionError.TheVariants.{Refused, Memory}
 
 -- as many rows as were asked for
 pub rows_made : {X : Type 0} (rows items : List X) (n : ℕ) (row : X) → rows ≡ items → items ≡ replicate n row → length rows ≡ n
 rows_made rows items n row e made = ap length (e ∙ made) ∙ length-replicate n row
+
+-- a place with the defaults holds no grant
+pub blank_entry : (e : Entry) → (e.station ≡ 0) × ((e.reference ≡ 0) × ((e.rank ≡ 0) × ((e.mark ≡ Preempts) × ((e.identity ≡ 0) × (e.end ≡ Stands))))) → e ≡ no_entry
+blank_entry e is i =
+    record {
+      station = is.0 i;
+      reference = is.1.0 i;
+      rank = is.1.1.0 i;
+      mark = is.1.1.1.0 i;
+      identity = is.1.1.1.1.0 i;
+      end = is.1.1.1.1.1 i;
+    }
 
 places : length fresh_book ≡ 4096
 places = length-replicate 4096 no_entry
@@ -56,27 +72,24 @@ module _ (numbers : SettingNumbers) (subscribers : List Subscriber) (stations : 
       ap (λ (o : Option Refusal). conduct_refusal o calls before) check
       ∙ ap (λ (b : Bool). cond b None (Some FewPlaces)) (le-leb calls before enough)
 
-  module _ (above : ℕ → ℕ → Bool) (ranks : ℕ) (calls : List Call) (v : Vec Answer Global) (before after : List Answer) (held : Result GroupCall Refusal) where
-    abbrev pub Exact : Type 0
-    Exact = MatchResult held (λ _. take (length calls) after ≡ all_answers above ranks (frame_for (given_of numbers subscribers t)) calls (first_model (given_of numbers subscribers t))) (λ refusal. (conduct_refusal (refusal_at_opening (given_of numbers subscribers t) true) (length calls) (length before) ≡ Some refusal) × Untouched t t' × (after ≡ before))
-
-    pub not_refused : length before ≡ length calls → opening_check numbers subscribers (length subscribers) stations 4096 true ≡ None → (refusal : Refusal) → held ≡ Err refusal → Exact → ⊥
-    not_refused same passed refusal is exact =
-        let said = MatchResult-at_err (λ _. take (length calls) after ≡ all_answers above ranks (frame_for (given_of numbers subscribers t)) calls (first_model (given_of numbers subscribers t))) (λ r. (conduct_refusal (refusal_at_opening (given_of numbers subscribers t) true) (length calls) (length before) ≡ Some r) × Untouched t t' × (after ≡ before)) refusal is exact in
+  module _ (above : ℕ → ℕ → Bool) (ranks : ℕ) (calls : List Call) (v : Vec Answer Global) (before after : List Answer) where
+    -- no check refuses, so what is wanting is memory
+    pub only_memory : length before ≡ length calls → opening_check numbers subscribers (length subscribers) stations 4096 true ≡ None → (error : SessionError) → IfRefused error (λ refusal. (conduct_refusal (refusal_at_opening (given_of numbers subscribers t) true) (length calls) (length before) ≡ Some refusal) × Untouched t t' × (after ≡ before)) → IfRefused error (λ _. ⊥)
+    only_memory same passed (Refused refusal) said =
         let none : None ≡ Some refusal = sym (accepted (length calls) (length before) (sym same) passed) ∙ said.0 in
         let z : ◌≡◌ {A = ℕ} 0 1 = cc in
         omega arith
+    only_memory same passed (Memory failed) said = tt
 
-    pub answers_so : length after ≡ vec_len v → vec_len v ≡ length calls → (group : GroupCall) → held ≡ Ok group → Exact → vec_items (with_items v after) ≡ all_answers above ranks (frame_for (given_for numbers subscribers stations)) calls (first_model (given_for numbers subscribers stations))
-    answers_so fill many group is exact =
-        let said = MatchResult-at_ok (λ _. take (length calls) after ≡ all_answers above ranks (frame_for (given_of numbers subscribers t)) calls (first_model (given_of numbers subscribers t))) (λ r. (conduct_refusal (refusal_at_opening (given_of numbers subscribers t) true) (length calls) (length before) ≡ Some r) × Untouched t t' × (after ≡ before)) group is exact in
+    pub answers_so : length after ≡ vec_len v → vec_len v ≡ length calls → take (length calls) after ≡ all_answers above ranks (frame_for (given_of numbers subscribers t)) calls (first_model (given_of numbers subscribers t)) → vec_items (with_items v after) ≡ all_answers above ranks (frame_for (given_for numbers subscribers stations)) calls (first_model (given_for numbers subscribers stations))
+    answers_so fill many said =
         let whole : length after ≤ length calls = omega arith in
         with_items_is v after fill
         ∙ sym (take_all (length calls) after whole)
         ∙ said
         ∙ ap (λ (g : Given). all_answers above ranks (frame_for g) calls (first_model g)) given_same
 
-    pub kept_so : length after ≡ vec_len v → (group : GroupCall) → held ≡ Ok group → IfOk held (λ c. Guaranteed above ranks calls after c t') → Kept above ranks calls (vec_items (with_items v after))
-    kept_so fill group is guaranteed =
+    pub kept_so : length after ≡ vec_len v → (group : GroupCall) → Guaranteed above ranks calls after group t' → Kept above ranks calls (vec_items (with_items v after))
+    kept_so fill group guaranteed =
         subst (λ (xs : List Answer). Kept above ranks calls xs) (sym (with_items_is v after fill))
-        (record { book = t'.book.now; last = group.last; mobiles = t'.mobiles.now; guarantee = MatchResult-at_ok (λ c. Guaranteed above ranks calls after c t') (λ _. Unit {0}) group is guaranteed })
+        (record { book = t'.book.now; last = group.last; mobiles = t'.mobiles.now; guarantee = guaranteed })

@@ -1,3 +1,4 @@
+pub mod Errors
 pub mod Models
 pub mod Sessions
 pub mod Settings

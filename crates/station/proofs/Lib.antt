@@ -1,6 +1,6 @@
+mod Cases
 mod Clocks
 pub mod Laws
 mod Notices
 mod Restarts
 mod Steps
-mod Timers

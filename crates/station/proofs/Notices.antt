@@ -1,40 +1,42 @@
 -- What a station's timer says on the air is a notice that fell due on the grid of its clock.
 -- Assumes nothing.
-use Rattle.std.proofs.Common.{◌≡◌, ℕ, ◌<◌, ◌≤◌, Bool, true, false, not, ◌&&◌, ltb, leb, Some, None, Option, sym, refl, ap, ◌∙◌, subst, ⊎_elim, arith}
+use Rattle.std.proofs.Common.{◌≡◌, ℕ, ◌<◌, ◌≤◌, Bool, true, false, not, ◌&&◌, ltb, leb, refl, ap, ◌∙◌, subst, ⊎_elim, arith}
 use Rattle.std.proofs.lemmas.Bool.{cond_both, cond-true, and_parts, not-true, ltb-true, leb-true, eqb-true, true≢false}
 use Rattle.messages.specs.declared.message.Cause.TheVariants.{RadioFailure}
 use Rattle.messages.specs.declared.message.Message.{Message}
 use Rattle.messages.specs.declared.outbox.Post.TheVariants.{Air}
 use Rattle.station.specs.Clocks.{sound, next_due, OnGrid, FirstAfter}
 use Rattle.station.specs.Laws.{Says, StationLaws}
-use Rattle.station.specs.Stations.{Part, station_row, sound_clock, is_shut, drop_pending, expire_grant, give_notice, timed}
+use Rattle.station.specs.Stations.{Part, not_due, sound_clock, is_shut, drop_pending, expire_grant, give_notice, timed}
 use Rattle.station.specs.declared.clock.ClockRow.{ClockRow}
-use Rattle.station.specs.declared.row.Pending.{Pending}
 use Rattle.station.specs.declared.row.Phase.{Phase}
 use Rattle.station.specs.declared.row.Phase.TheVariants.{Shut, Free, Seized, Granted, Held, Closing}
 use Rattle.station.specs.declared.row.Station.{Station}
-use Rattle.station.proofs.Clocks.{next_first, on_grid}
+use Rattle.station.proofs.Cases.{drop_cases, expiry_cases}
+use Rattle.station.proofs.Clocks.{next_is_first, on_grid}
 use Rattle.station.proofs.Restarts.{wire_restarts, air_unclocked, closing_unclocked, timer_keeps}
 use Rattle.station.proofs.Steps.{step_lawful, says_split, one_identity}
-use Rattle.station.proofs.Timers.{Sound, dropped_sound, expired_sound}
 
-drop_clock : (p : Option Pending) (time : ℕ) (row : Station) → (drop_pending p time row).row.clock ≡ row.clock
-drop_clock None time row = refl
-drop_clock (Some pair) time row = cond_both (leb pair.deadline time) _ _ (λ (part : Part). part.row.clock ≡ row.clock) (λ _. refl) (λ _. refl)
+-- a row's clock is sound, or not looked at
+abbrev Sound : (period : ℕ) → Station → Type 0
+Sound period row = sound_clock period row.phase row.clock ≡ true
 
--- the second part keeps the clock, and says nothing on the air
-record Expires (clock : ClockRow) (part : Part) : Type 0 where
-  same : part.row.clock ≡ clock
+-- the timer's first two parts keep the clock, and a sound one stays sound; they say nothing on the air
+record Kept (period : ℕ) (row : Station) (part : Part) : Type 0 where
+  same : part.row.clock ≡ row.clock
+  still : Sound period row → Sound period part.row
   silent : (m : Message) → Says part.said (Air m) → ⊥
 
-expires : (phase : Phase) (b time top : ℕ) (pending : Option Pending) (clock : ClockRow) → Expires clock (expire_grant phase b time (station_row phase top pending clock))
-expires Shut b time top pending clock = record { same = refl; silent = λ m h. h }
-expires Free b time top pending clock = record { same = refl; silent = λ m h. h }
-expires (Seized rank) b time top pending clock = record { same = refl; silent = λ m h. h }
-expires (Granted rank deadline) b time top pending clock =
-    cond_both (leb deadline time) _ _ (Expires clock) (λ _. record { same = refl; silent = λ m h. ⊎_elim (λ e. let z : ◌≡◌ {A = ℕ} 0 1 = cc in omega arith) (λ n. n) h }) (λ _. record { same = refl; silent = λ m h. h })
-expires (Held rank identity) b time top pending clock = record { same = refl; silent = λ m h. h }
-expires (Closing rank cause) b time top pending clock = record { same = refl; silent = λ m h. h }
+nothing_kept : (period : ℕ) (row : Station) → Kept period row (not_due row)
+nothing_kept period row = record { same = refl; still = λ ok. ok; silent = λ m h. h }
+
+drop_kept : (period time : ℕ) (row : Station) → Kept period row (drop_pending row.pending time row)
+drop_kept period time row = drop_cases time row (Kept period row) (nothing_kept period row) (record { same = refl; still = λ ok. ok; silent = λ m h. h })
+
+expiry_kept : (period b time : ℕ) (row : Station) → Kept period row (expire_grant row.phase b time row)
+expiry_kept period b time row =
+    expiry_cases b time row (Kept period row) (nothing_kept period row)
+    (λ rank deadline is. record { same = refl; still = λ ok. subst (λ (p : Phase). sound_clock period p row.clock ≡ true) is ok; silent = λ m h. ⊎_elim (λ e. absurd (cc e)) (λ n. n) h })
 
 -- a notice is said only by a clock that is due
 record Due (time period : ℕ) (row : Station) (part : Part) : Type 0 where
@@ -60,16 +62,16 @@ sound_open period (Held rank identity) clock e h = h
 sound_open period (Closing rank cause) clock e h = h
 
 module _ (above : ℕ → ℕ → Bool) (b link period : ℕ) where
-  abbrev after_drop : ℕ → Station → Station
-  after_drop time row = (drop_pending row.pending time row).row
-
   abbrev after_expiry : ℕ → Station → Part
-  after_expiry time row = expire_grant (after_drop time row).phase b time (after_drop time row)
+  after_expiry time row =
+      let one = (drop_pending row.pending time row).row in
+      expire_grant one.phase b time one
 
-  clock_kept : (time : ℕ) (row : Station) → (after_expiry time row).row.clock ≡ row.clock
-  clock_kept time row =
-      let one = after_drop time row in
-      (expires one.phase b time one.top one.pending one.clock).same ∙ drop_clock row.pending time row
+  early_kept : (time : ℕ) (row : Station) → Kept period row (after_expiry time row)
+  early_kept time row =
+      let one = drop_kept period time row in
+      let two = expiry_kept period b time (drop_pending row.pending time row).row in
+      record { same = two.same ∙ one.same; still = λ ok. two.still (one.still ok); silent = two.silent }
 
   on_the_grid : (time : ℕ) (row : Station) → 0 < period → Sound period row → Due time period row (give_notice b time period row) → OnGrid row.clock.start period row.clock.due × FirstAfter row.clock.start period time (give_notice b time period row).row.clock.due
   on_the_grid time row some ok due =
@@ -77,19 +79,16 @@ module _ (above : ℕ → ℕ → Bool) (b link period : ℕ) where
       let later = ltb-true _ _ parts.0 in
       let reached = due.reached in
       let before : row.clock.start ≤ time = omega arith in
-      (on_grid row.clock.start period row.clock.due some later (eqb-true _ _ parts.1), subst (FirstAfter row.clock.start period time) (sym due.next) (next_first row.clock.start period time some before))
+      (on_grid row.clock.start period row.clock.due some later (eqb-true _ _ parts.1), next_is_first row.clock.start period time _ some before due.next)
 
   notice_on_grid : (time : ℕ) (row : Station) (m : Message) → 0 < period → sound_clock period row.phase row.clock ≡ true → Says (timed b time period row).said (Air m) → (row.clock.due ≤ time) × OnGrid row.clock.start period row.clock.due × FirstAfter row.clock.start period time (timed b time period row).row.clock.due
   notice_on_grid time row m some ok h =
-      let one = after_drop time row in
       let two = after_expiry time row in
-      let silent = (expires one.phase b time one.top one.pending one.clock).silent in
-      let said = ⊎_elim (λ early. absurd (silent m early)) (λ late. late) (says_split above b link period two.said _ (Air m) h) in
+      let early = early_kept time row in
+      let said = ⊎_elim (λ h. absurd (early.silent m h)) (λ h. h) (says_split two.said _ (Air m) h) in
       let due = noticed_due b time period two.row m said in
-      let sound_two = expired_sound period one.phase b time one.top one.pending one.clock (dropped_sound period row.pending time row ok) in
-      let grid = on_the_grid time two.row some sound_two due in
-      let same = clock_kept time row in
-      (subst (λ (c : ClockRow). c.due ≤ time) same due.reached, subst (λ (c : ClockRow). OnGrid c.start period c.due) same grid.0, subst (λ (c : ClockRow). FirstAfter c.start period time (timed b time period row).row.clock.due) same grid.1)
+      let grid = on_the_grid time two.row some (early.still ok) due in
+      (subst (λ (c : ClockRow). c.due ≤ time) early.same due.reached, subst (λ (c : ClockRow). OnGrid c.start period c.due) early.same grid.0, subst (λ (c : ClockRow). FirstAfter c.start period time (timed b time period row).row.clock.due) early.same grid.1)
 
   pub laws : StationLaws above b link period
   laws =
@@ -100,7 +99,7 @@ module _ (above : ℕ → ℕ → Bool) (b link period : ℕ) where
         notice_on_grid = notice_on_grid;
         restart_by_wire = λ m time row. wire_restarts above b link period m.kind time m row;
         no_restart_by_air = λ m time row. air_unclocked above b link period m.kind time m row;
-        no_restart_by_loss = λ row. closing_unclocked above b link period row.phase RadioFailure row.top row.pending row.clock;
+        no_restart_by_loss = λ row. closing_unclocked above b link period RadioFailure row;
         no_entry_by_timer = timer_keeps above b link period;
-        start_stays = λ time row. notice_start b time period (after_expiry time row).row ∙ ap (λ (c : ClockRow). c.start) (clock_kept time row);
+        start_stays = λ time row. notice_start b time period (after_expiry time row).row ∙ ap (λ (c : ClockRow). c.start) (early_kept time row).same;
       }

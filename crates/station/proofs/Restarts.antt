@@ -1,6 +1,6 @@
 -- When a station's notice clock restarts: exactly on entering Free, Seized or Granted.
 -- Assumes nothing.
-use Rattle.std.proofs.Common.{◌≡◌, ℕ, Bool, true, false, not, ◌&&◌, eqb, ltb, leb, Some, None, MatchBool, Option, sym, refl, ap, ◌∙◌, subst, arith}
+use Rattle.std.proofs.Common.{◌≡◌, ℕ, Bool, true, false, not, ◌&&◌, eqb, ltb, leb, None, MatchBool, sym, refl, ap, subst, arith}
 use Rattle.std.proofs.lemmas.Bool.{cond_both, le-ltb}
 use Rattle.messages.specs.declared.message.Cause.{Cause}
 use Rattle.messages.specs.declared.message.Cause.TheVariants.{CallControl}
@@ -10,12 +10,11 @@ use Rattle.messages.specs.declared.message.Message.{Message}
 use Rattle.messages.specs.declared.message.StationKind.TheVariants.{Acknowledge, Reject, Seized as SeizedKind, ReleaseCommand}
 use Rattle.messages.specs.declared.message.UplinkKind.TheVariants.{Access, TalkerIndication, End}
 use Rattle.station.specs.Laws.{enters, entered, ClockAfter}
-use Rattle.station.specs.Stations.{StationActed, Part, ignoring, station_row, restarted, pending_is, no_pending, is_shut, is_free, enter_granted, on_acknowledge, on_seized, on_release_command, on_reject, by_wire_kind, admits, of_top_indication, closing, by_air_kind, drop_pending, expire_grant, give_notice, timed}
-use Rattle.station.specs.declared.clock.ClockRow.{ClockRow}
-use Rattle.station.specs.declared.row.Pending.{Pending}
+use Rattle.station.specs.Stations.{StationActed, Part, ignoring, station_row, restarted, pending_is, no_pending, is_shut, is_free, enter_granted, on_acknowledge, on_seized, on_release_command, on_reject, by_wire_kind, admits, closing, by_air_kind, expire_grant, give_notice, timed}
 use Rattle.station.specs.declared.row.Phase.{Phase}
 use Rattle.station.specs.declared.row.Phase.TheVariants.{Shut, Free, Seized, Granted, Held, Closing}
 use Rattle.station.specs.declared.row.Station.{Station}
+use Rattle.station.proofs.Cases.{drop_cases, expiry_cases, closing_cases, indication_cases}
 
 -- a phase with its number is not entered again by staying in it
 pub stays_in : (phase : Phase) (top : ℕ) → enters phase top phase top ≡ false
@@ -74,30 +73,17 @@ module _ (above : ℕ → ℕ → Bool) (b link period : ℕ) where
   ignored_unclocked : (row : Station) → Unclocked row (ignoring row)
   ignored_unclocked row = (stays_in row.phase row.top, refl)
 
-  indication_unclocked : (phase : Phase) (top : ℕ) (pending : Option Pending) (clock : ClockRow) (m : Message) → Unclocked (station_row phase top pending clock) (of_top_indication phase b m (station_row phase top pending clock))
-  indication_unclocked Shut top pending clock m = (refl, refl)
-  indication_unclocked Free top pending clock m = (refl, refl)
-  indication_unclocked (Seized rank) top pending clock m = ignored_unclocked (station_row (Seized rank) top pending clock)
-  indication_unclocked (Granted rank deadline) top pending clock m = (refl, refl)
-  indication_unclocked (Held rank identity) top pending clock m = (refl, refl)
-  indication_unclocked (Closing rank cause) top pending clock m = (refl, refl)
-
-  pub closing_unclocked : (phase : Phase) (cause : Cause) (top : ℕ) (pending : Option Pending) (clock : ClockRow) → Unclocked (station_row phase top pending clock) (closing phase cause b (station_row phase top pending clock) (ignoring (station_row phase top pending clock)))
-  closing_unclocked Shut cause top pending clock = (refl, refl)
-  closing_unclocked Free cause top pending clock = (refl, refl)
-  closing_unclocked (Seized rank) cause top pending clock = ignored_unclocked (station_row (Seized rank) top pending clock)
-  closing_unclocked (Granted rank deadline) cause top pending clock = ignored_unclocked (station_row (Granted rank deadline) top pending clock)
-  closing_unclocked (Held rank identity) cause top pending clock = (refl, refl)
-  closing_unclocked (Closing rank held) cause top pending clock = (refl, refl)
+  pub closing_unclocked : (cause : Cause) (row : Station) → Unclocked row (closing row.phase cause b row (ignoring row))
+  closing_unclocked cause row = closing_cases b cause row (Unclocked row) (ignored_unclocked row) (λ rank identity is. (refl, refl))
 
   pub air_unclocked : (kind : Kind) (time : ℕ) (m : Message) (row : Station) → Unclocked row (by_air_kind kind above b time link m row)
   air_unclocked (Downlink kind) time m row = ignored_unclocked row
   air_unclocked (Uplink Access) time m row =
       cond_both (no_pending row.pending && admits above m.rank row.phase) _ _ (Unclocked row) (λ _. (stays_in row.phase row.top, refl)) (λ _. ignored_unclocked row)
   air_unclocked (Uplink TalkerIndication) time m row =
-      cond_both (eqb m.grant row.top) _ _ (Unclocked row) (λ _. indication_unclocked row.phase row.top row.pending row.clock m) (λ _. ignored_unclocked row)
+      cond_both (eqb m.grant row.top) _ _ (Unclocked row) (λ _. indication_cases b m row (Unclocked row) (ignored_unclocked row) (λ rank deadline is. (refl, refl)) (λ rank identity is. ignored_unclocked row)) (λ _. ignored_unclocked row)
   air_unclocked (Uplink End) time m row =
-      cond_both (eqb m.grant row.top) _ _ (Unclocked row) (λ _. closing_unclocked row.phase CallControl row.top row.pending row.clock) (λ _. ignored_unclocked row)
+      cond_both (eqb m.grant row.top) _ _ (Unclocked row) (λ _. closing_unclocked CallControl row) (λ _. ignored_unclocked row)
   air_unclocked (Anchor kind) time m row = ignored_unclocked row
   air_unclocked (ToStation kind) time m row = ignored_unclocked row
 
@@ -108,25 +94,11 @@ module _ (above : ℕ → ℕ → Bool) (b link period : ℕ) where
   notice_keeps : (phase : Phase) (top time : ℕ) (row : Station) → enters phase top row.phase row.top ≡ false → NotEntered phase top (give_notice b time period row)
   notice_keeps phase top time row h = cond_both (not (is_shut row.phase) && leb row.clock.due time) _ _ (NotEntered phase top) (λ _. h) (λ _. h)
 
-  expiry_keeps : (phase : Phase) (time top : ℕ) (pending : Option Pending) (clock : ClockRow) → NotEntered phase top (expire_grant phase b time (station_row phase top pending clock))
-  expiry_keeps Shut time top pending clock = refl
-  expiry_keeps Free time top pending clock = refl
-  expiry_keeps (Seized rank) time top pending clock = stays_in (Seized rank) top
-  expiry_keeps (Granted rank deadline) time top pending clock =
-      cond_both (leb deadline time) _ _ (NotEntered (Granted rank deadline) top) (λ _. refl) (λ _. stays_in (Granted rank deadline) top)
-  expiry_keeps (Held rank identity) time top pending clock = refl
-  expiry_keeps (Closing rank cause) time top pending clock = refl
-
-  -- the first part keeps phase and number
-  drop_keeps : (p : Option Pending) (time : ℕ) (row : Station) → ((drop_pending p time row).row.phase ≡ row.phase) × ((drop_pending p time row).row.top ≡ row.top)
-  drop_keeps None time row = (refl, refl)
-  drop_keeps (Some pair) time row =
-      cond_both (leb pair.deadline time) _ _ (λ (part : Part). (part.row.phase ≡ row.phase) × (part.row.top ≡ row.top)) (λ _. (refl, refl)) (λ _. (refl, refl))
+  expiry_keeps : (time : ℕ) (row : Station) → NotEntered row.phase row.top (expire_grant row.phase b time row)
+  expiry_keeps time row = expiry_cases b time row (NotEntered row.phase row.top) (stays_in row.phase row.top) (λ rank deadline is. refl)
 
   pub timer_keeps : (time : ℕ) (row : Station) → entered row (timed b time period row).row ≡ false
-  timer_keeps time row =
-      let one = (drop_pending row.pending time row).row in
-      let same = drop_keeps row.pending time row in
-      let after = (timed b time period row).row in
-      let late = notice_keeps one.phase one.top time _ (expiry_keeps one.phase time one.top one.pending one.clock) in
-      (λ i. enters (sym same.0 i) (sym same.1 i) after.phase after.top) ∙ late
+  timer_keeps time row = drop_cases time row (λ (one : Part). entered row (give_notice b time period (expire_grant one.row.phase b time one.row).row).row ≡ false) (late row) (late (station_row row.phase row.top None row.clock))
+    where
+      late : (one : Station) → entered one (give_notice b time period (expire_grant one.phase b time one).row).row ≡ false
+      late one = notice_keeps one.phase one.top time _ (expiry_keeps time one)

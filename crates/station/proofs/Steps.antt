@@ -1,6 +1,6 @@
 -- The laws of a station's steps: each step is lawful by itself, and what was said of a number stays settled.
 -- Assumes nothing.
-use Rattle.std.proofs.Common.{◌≡◌, ℕ, ◌<◌, ◌≤◌, Bool, true, false, not, ◌&&◌, eqb, ltb, leb, ◌⊎◌, List, [], ◌∷◌, ◌++◌, Some, None, Option, sym, refl, ap, ◌∙◌, subst, inl, inr, ⊎_elim, arith}
+use Rattle.std.proofs.Common.{◌≡◌, ℕ, ◌<◌, ◌≤◌, Bool, true, false, not, ◌&&◌, eqb, ltb, leb, ◌⊎◌, List, [], ◌∷◌, ◌++◌, sym, refl, ap, ◌∙◌, subst, inl, inr, ⊎_elim, arith}
 use Rattle.std.proofs.lemmas.Bool.{cases_order, cond_both, ltb-true, leb-true, true≢false}
 use Rattle.messages.specs.Messages.{BUSY, GRANT, UA, CONFIRMATION}
 use Rattle.messages.specs.declared.message.Cause.{Cause}
@@ -14,12 +14,11 @@ use Rattle.messages.specs.declared.message.UplinkKind.TheVariants.{Access, Talke
 use Rattle.messages.specs.declared.outbox.Post.{Post}
 use Rattle.messages.specs.declared.outbox.Post.TheVariants.{Air, Wire}
 use Rattle.station.specs.Laws.{StationEvent, Says, is_granted, stepped, StationRun}
-use Rattle.station.specs.Stations.{StationActed, Part, ignoring, acting, not_due, station_row, leaving, pending_is, no_pending, is_shut, is_free, enter_granted, on_acknowledge, on_seized, on_release_command, on_reject, by_wire_kind, admits, on_access, of_top_indication, closing, by_air_kind, drop_pending, expire_grant, notice, give_notice, timed}
-use Rattle.station.specs.declared.clock.ClockRow.{ClockRow}
-use Rattle.station.specs.declared.row.Pending.{Pending}
+use Rattle.station.specs.Stations.{StationActed, Part, ignoring, acting, not_due, leaving, pending_is, no_pending, is_shut, is_free, enter_granted, on_acknowledge, on_seized, on_release_command, on_reject, by_wire_kind, admits, on_access, of_top_indication, closing, by_air_kind, drop_pending, expire_grant, notice, give_notice, timed}
 use Rattle.station.specs.declared.row.Phase.{Phase}
 use Rattle.station.specs.declared.row.Phase.TheVariants.{Shut, Free, Seized, Granted, Held, Closing}
 use Rattle.station.specs.declared.row.Station.{Station}
+use Rattle.station.proofs.Cases.{drop_cases, expiry_cases, closing_cases, indication_cases}
 
 -- the identity that a phase has settled for its grant: any but in Granted, the held one in Held
 abbrev pub Settled : Phase → ℕ → Type 0
@@ -30,53 +29,21 @@ Settled (Granted rank deadline) i = ⊥
 Settled (Held rank identity) i = i ≡ identity
 Settled (Closing rank cause) i = Unit {0}
 
--- a phase in which a UA with this identity may be said: not settled yet, or settled with it
-abbrev pub MaySay : Phase → ℕ → Type 0
-MaySay Shut i = ⊥
-MaySay Free i = ⊥
-MaySay (Seized rank) i = ⊥
-MaySay (Granted rank deadline) i = Unit {0}
-MaySay (Held rank identity) i = i ≡ identity
-MaySay (Closing rank cause) i = ⊥
-
 -- the phase holds this identity
 abbrev pub HeldBy : Phase → ℕ → Type 0
-HeldBy Shut i = ⊥
-HeldBy Free i = ⊥
-HeldBy (Seized rank) i = ⊥
-HeldBy (Granted rank deadline) i = ⊥
-HeldBy (Held rank identity) i = i ≡ identity
-HeldBy (Closing rank cause) i = ⊥
+HeldBy phase i = (rank : ℕ) × (phase ≡ Held rank i)
 
 held_settled : (phase : Phase) (i : ℕ) → HeldBy phase i → Settled phase i
-held_settled Shut i h = tt
-held_settled Free i h = tt
-held_settled (Seized rank) i h = tt
-held_settled (Granted rank deadline) i h = h
-held_settled (Held rank identity) i h = h
-held_settled (Closing rank cause) i h = tt
+held_settled phase i h = subst (λ (p : Phase). Settled p i) (sym h.1) refl
 
 held_same : (phase : Phase) (i j : ℕ) → HeldBy phase i → HeldBy phase j → i ≡ j
-held_same Shut i j h k = absurd h
-held_same Free i j h k = absurd h
-held_same (Seized rank) i j h k = absurd h
-held_same (Granted rank deadline) i j h k = absurd h
-held_same (Held rank identity) i j h k = h ∙ sym k
-held_same (Closing rank cause) i j h k = absurd h
-
-settled_same : (phase : Phase) (i j : ℕ) → Settled phase i → MaySay phase j → i ≡ j
-settled_same Shut i j h k = absurd k
-settled_same Free i j h k = absurd k
-settled_same (Seized rank) i j h k = absurd k
-settled_same (Granted rank deadline) i j h k = absurd h
-settled_same (Held rank identity) i j h k = h ∙ sym k
-settled_same (Closing rank cause) i j h k = absurd k
+held_same phase i j h k = let e = h.1 in let f = k.1 in cc
 
 -- what a step says: not a GRANT or a UA, but where that is in order
 pub record Lawful (row : Station) (acted : StationActed) : Type 0 where
   pub top : row.top ≤ acted.row.top
   pub grants : (m : Message) → Says acted.said (Air m) → m.kind ≡ Downlink Grant → (row.top < m.grant) × (acted.row.top ≡ m.grant) × (is_granted acted.row.phase ≡ true)
-  pub uas : (m : Message) → Says acted.said (Air m) → m.kind ≡ Downlink Ua → (m.grant ≡ row.top) × MaySay row.phase m.identity × HeldBy acted.row.phase m.identity × (acted.row.top ≡ row.top)
+  pub uas : (m : Message) → Says acted.said (Air m) → m.kind ≡ Downlink Ua → (m.grant ≡ row.top) × ((i : ℕ) → Settled row.phase i → i ≡ m.identity) × HeldBy acted.row.phase m.identity × (acted.row.top ≡ row.top)
   pub settled : (i : ℕ) → acted.row.top ≡ row.top → Settled row.phase i → Settled acted.row.phase i
 
 -- a post that is neither a GRANT nor a UA on the air
@@ -121,6 +88,11 @@ plain_leaving b (Granted rank deadline) top = (refl, tt)
 plain_leaving b (Held rank identity) top = (refl, tt)
 plain_leaving b (Closing rank cause) top = tt
 
+pub says_split : (s t : List Post) (post : Post) → Says (s ++ t) post → Says s post ⊎ Says t post
+says_split [] t post h = inr h
+says_split (x ∷ s) t post (inl e) = inl (inl e)
+says_split (x ∷ s) t post (inr h) = ⊎_elim (λ l. inl (inr l)) inr (says_split s t post h)
+
 -- a step that says no GRANT and no UA
 plain_lawful : (row : Station) (acted : StationActed) → row.top ≤ acted.row.top → AllPlain acted.said → ((i : ℕ) → acted.row.top ≡ row.top → Settled row.phase i → Settled acted.row.phase i) → Lawful row acted
 plain_lawful row acted top said settled =
@@ -159,7 +131,7 @@ module _ (above : ℕ → ℕ → Bool) (b link period : ℕ) where
       only_grant n h e = ⊎_elim (λ p. absurd (true≢false (sym p ∙ ap plain_kind e))) (λ is. ap (λ (x : Message). x.grant) is) (split (leaving b row.phase row.top) n (plain_leaving b row.phase row.top) h)
 
       none : (n : Message) → Says (leaving b row.phase row.top ++ Air (GRANT b m.reference m.rank m.grant) ∷ Air (BUSY b m.rank) ∷ []) (Air n) → n.kind ≡ Downlink Ua → ⊥
-      none n h e = ⊎_elim (λ p. true≢false (sym p ∙ ap plain_kind e)) (λ is. let k = ap (λ (x : Message). x.kind) is in let z : ◌≡◌ {A = ℕ} 0 1 = cc in omega arith) (split (leaving b row.phase row.top) n (plain_leaving b row.phase row.top) h)
+      none n h e = ⊎_elim (λ p. true≢false (sym p ∙ ap plain_kind e)) (λ is. let k = ap (λ (x : Message). x.kind) is in cc) (split (leaving b row.phase row.top) n (plain_leaving b row.phase row.top) h)
 
   acknowledge_lawful : (time : ℕ) (m : Message) (row : Station) → Lawful row (on_acknowledge b time link period m row)
   acknowledge_lawful time m row =
@@ -199,45 +171,38 @@ module _ (above : ℕ → ℕ → Bool) (b link period : ℕ) where
   ua_only top i rest n p (inr h) is = absurd (no_ua rest n p h is)
 
   no_grant_beside : (top i : ℕ) (rest : List Post) (n : Message) → AllPlain rest → Says (Air (UA b top i) ∷ rest) (Air n) → n.kind ≡ Downlink Grant → ⊥
-  no_grant_beside top i rest n p (inl e) is = let same : n ≡ UA b top i = cc in let k = ap (λ (x : Message). x.kind) same in let z : ◌≡◌ {A = ℕ} 0 1 = cc in omega arith
+  no_grant_beside top i rest n p (inl e) is = let same : n ≡ UA b top i = cc in let k = ap (λ (x : Message). x.kind) same in cc
   no_grant_beside top i rest n p (inr h) is = no_grant rest n p h is
 
-  indication_lawful : (phase : Phase) (top : ℕ) (pending : Option Pending) (clock : ClockRow) (m : Message) → Lawful (station_row phase top pending clock) (of_top_indication phase b m (station_row phase top pending clock))
-  indication_lawful Shut top pending clock m = ignored_lawful _
-  indication_lawful Free top pending clock m = ignored_lawful _
-  indication_lawful (Seized rank) top pending clock m = ignored_lawful _
-  indication_lawful (Granted rank deadline) top pending clock m =
-      let rest = Wire (CONFIRMATION b top m.identity) ∷ [] in
+  indication_lawful : (m : Message) (row : Station) → Lawful row (of_top_indication row.phase b m row)
+  indication_lawful m row =
+      indication_cases b m row (Lawful row) (ignored_lawful row)
+      (λ rank deadline is.
+      let rest = Wire (CONFIRMATION b row.top m.identity) ∷ [] in
       record {
         top = omega arith;
-        grants = λ n h e. absurd (no_grant_beside top m.identity rest n (refl, tt) h e);
-        uas = λ n h e. let is = ua_only top m.identity rest n (refl, tt) h e in (ap (λ (x : Message). x.grant) is, tt, ap (λ (x : Message). x.identity) is, refl);
-        settled = λ i e h. absurd h;
-      }
-  indication_lawful (Held rank identity) top pending clock m =
+        grants = λ n h e. absurd (no_grant_beside row.top m.identity rest n (refl, tt) h e);
+        uas = λ n h e. let ua = ua_only row.top m.identity rest n (refl, tt) h e in (ap (λ (x : Message). x.grant) ua, (λ i s. absurd (subst (λ (p : Phase). Settled p i) is s)), (rank, ap (Held rank) (sym (ap (λ (x : Message). x.identity) ua))), refl);
+        settled = λ i e s. absurd (subst (λ (p : Phase). Settled p i) is s);
+      })
+      (λ rank identity is.
       record {
         top = omega arith;
-        grants = λ n h e. absurd (no_grant_beside top identity [] n tt h e);
-        uas = λ n h e. let is = ua_only top identity [] n tt h e in (ap (λ (x : Message). x.grant) is, ap (λ (x : Message). x.identity) is, ap (λ (x : Message). x.identity) is, refl);
-        settled = λ i e h. h;
-      }
-  indication_lawful (Closing rank cause) top pending clock m = ignored_lawful _
+        grants = λ n h e. absurd (no_grant_beside row.top identity [] n tt h e);
+        uas = λ n h e. let ua = ua_only row.top identity [] n tt h e in let same = ap (λ (x : Message). x.identity) ua in (ap (λ (x : Message). x.grant) ua, (λ i s. subst (λ (p : Phase). Settled p i) is s ∙ sym same), (rank, is ∙ ap (Held rank) (sym same)), refl);
+        settled = λ i e s. s;
+      })
 
-  closing_lawful : (phase : Phase) (cause : Cause) (top : ℕ) (pending : Option Pending) (clock : ClockRow) → Lawful (station_row phase top pending clock) (closing phase cause b (station_row phase top pending clock) (ignoring (station_row phase top pending clock)))
-  closing_lawful Shut cause top pending clock = ignored_lawful _
-  closing_lawful Free cause top pending clock = ignored_lawful _
-  closing_lawful (Seized rank) cause top pending clock = ignored_lawful _
-  closing_lawful (Granted rank deadline) cause top pending clock = ignored_lawful _
-  closing_lawful (Held rank identity) cause top pending clock = plain_lawful _ _ (omega arith) (refl, tt) (λ i e h. tt)
-  closing_lawful (Closing rank held) cause top pending clock = ignored_lawful _
+  closing_lawful : (cause : Cause) (row : Station) → Lawful row (closing row.phase cause b row (ignoring row))
+  closing_lawful cause row = closing_cases b cause row (Lawful row) (ignored_lawful row) (λ rank identity is. plain_lawful row _ (omega arith) (refl, tt) (λ i e h. tt))
 
   air_lawful : (kind : Kind) (time : ℕ) (m : Message) (row : Station) → Lawful row (by_air_kind kind above b time link m row)
   air_lawful (Downlink kind) time m row = ignored_lawful row
   air_lawful (Uplink Access) time m row = access_lawful time m row
   air_lawful (Uplink TalkerIndication) time m row =
-      cond_both (eqb m.grant row.top) _ _ (Lawful row) (λ _. indication_lawful row.phase row.top row.pending row.clock m) (λ _. ignored_lawful row)
+      cond_both (eqb m.grant row.top) _ _ (Lawful row) (λ _. indication_lawful m row) (λ _. ignored_lawful row)
   air_lawful (Uplink End) time m row =
-      cond_both (eqb m.grant row.top) _ _ (Lawful row) (λ _. closing_lawful row.phase CallControl row.top row.pending row.clock) (λ _. ignored_lawful row)
+      cond_both (eqb m.grant row.top) _ _ (Lawful row) (λ _. closing_lawful CallControl row) (λ _. ignored_lawful row)
   air_lawful (Anchor kind) time m row = ignored_lawful row
   air_lawful (ToStation kind) time m row = ignored_lawful row
 
@@ -250,19 +215,11 @@ module _ (above : ℕ → ℕ → Bool) (b link period : ℕ) where
   not_due_lawful : (row : Station) → PartLawful row (not_due row)
   not_due_lawful row = record { top = refl; said = tt; settled = λ i h. h }
 
-  drop_lawful : (p : Option Pending) (time : ℕ) (row : Station) → PartLawful row (drop_pending p time row)
-  drop_lawful None time row = not_due_lawful row
-  drop_lawful (Some pair) time row =
-      cond_both (leb pair.deadline time) _ _ (PartLawful row) (λ _. record { top = refl; said = tt; settled = λ i h. h }) (λ _. not_due_lawful row)
+  drop_lawful : (time : ℕ) (row : Station) → PartLawful row (drop_pending row.pending time row)
+  drop_lawful time row = drop_cases time row (PartLawful row) (not_due_lawful row) (record { top = refl; said = tt; settled = λ i h. h })
 
-  expire_lawful : (phase : Phase) (time top : ℕ) (pending : Option Pending) (clock : ClockRow) → PartLawful (station_row phase top pending clock) (expire_grant phase b time (station_row phase top pending clock))
-  expire_lawful Shut time top pending clock = not_due_lawful _
-  expire_lawful Free time top pending clock = not_due_lawful _
-  expire_lawful (Seized rank) time top pending clock = not_due_lawful _
-  expire_lawful (Granted rank deadline) time top pending clock =
-      cond_both (leb deadline time) _ _ (PartLawful (station_row (Granted rank deadline) top pending clock)) (λ _. record { top = refl; said = (refl, tt); settled = λ i h. tt }) (λ _. not_due_lawful _)
-  expire_lawful (Held rank identity) time top pending clock = not_due_lawful _
-  expire_lawful (Closing rank cause) time top pending clock = not_due_lawful _
+  expire_lawful : (time : ℕ) (row : Station) → PartLawful row (expire_grant row.phase b time row)
+  expire_lawful time row = expiry_cases b time row (PartLawful row) (not_due_lawful row) (λ rank deadline is. record { top = refl; said = (refl, tt); settled = λ i h. tt })
 
   plain_notice : (phase : Phase) (top : ℕ) → AllPlain (notice phase b top)
   plain_notice Shut top = tt
@@ -280,8 +237,8 @@ module _ (above : ℕ → ℕ → Bool) (b link period : ℕ) where
   timer_lawful time row =
       let one = drop_pending row.pending time row in
       let two = expire_grant one.row.phase b time one.row in
-      let l1 = drop_lawful row.pending time row in
-      let l2 = expire_lawful one.row.phase time one.row.top one.row.pending one.row.clock in
+      let l1 = drop_lawful time row in
+      let l2 = expire_lawful time one.row in
       let l3 = notice_lawful time two.row in
       let same = l3.top ∙ l2.top ∙ l1.top in
       plain_lawful row (timed b time period row) (omega arith) (plain_append two.said _ l2.said l3.said) (λ i e h. l3.settled i (l2.settled i (l1.settled i h)))
@@ -289,7 +246,7 @@ module _ (above : ℕ → ℕ → Bool) (b link period : ℕ) where
   pub step_lawful : (e : StationEvent) (row : Station) → Lawful row (stepped above b link period e row)
   step_lawful (StationEvent.wire_message m time) row = wire_lawful m.kind time m row
   step_lawful (StationEvent.air_message m time) row = air_lawful m.kind time m row
-  step_lawful StationEvent.radio_loss row = closing_lawful row.phase RadioFailure row.top row.pending row.clock
+  step_lawful StationEvent.radio_loss row = closing_lawful RadioFailure row
   step_lawful (StationEvent.timer_call time) row = timer_lawful time row
 
   -- what was said of a number is settled: the number is past, or its identity is fixed
@@ -305,11 +262,6 @@ module _ (above : ℕ → ℕ → Bool) (b link period : ℕ) where
       at (inr (inl less)) = let t = law.top in absurd (omega arith)
       at (inr (inr more)) = let g = known.0 in inl (omega arith)
 
-  pub says_split : (s t : List Post) (post : Post) → Says (s ++ t) post → Says s post ⊎ Says t post
-  says_split [] t post h = inr h
-  says_split (x ∷ s) t post (inl e) = inl (inl e)
-  says_split (x ∷ s) t post (inr h) = ⊎_elim (λ l. inl (inr l)) inr (says_split s t post h)
-
   ua_known : (row : Station) (acted : StationActed) (m : Message) → Lawful row acted → Says acted.said (Air m) → m.kind ≡ Downlink Ua → Known acted.row m
   ua_known row acted m law h e = let u = law.uas m h e in inr (u.0 ∙ sym u.3, held_settled acted.row.phase m.identity u.2)
 
@@ -321,7 +273,7 @@ module _ (above : ℕ → ℕ → Bool) (b link period : ℕ) where
   -- a UA said before and one said now
   old_and_new : (row : Station) (acted : StationActed) (m n : Message) → Lawful row acted → Known row m → Says acted.said (Air n) → n.kind ≡ Downlink Ua → m.grant ≡ n.grant → m.identity ≡ n.identity
   old_and_new row acted m n law (inl past) h e same = let u = law.uas n h e in let g = u.0 in absurd (omega arith)
-  old_and_new row acted m n law (inr known) h e same = settled_same row.phase m.identity n.identity known.1 (law.uas n h e).1
+  old_and_new row acted m n law (inr known) h e same = (law.uas n h e).1 m.identity known.1
 
   pub one_identity : {first : Station} {said : List Post} {row : Station} → StationRun above b link period first said row → (m n : Message) → Says said (Air m) → Says said (Air n) → m.kind ≡ Downlink Ua → n.kind ≡ Downlink Ua → m.grant ≡ n.grant → m.identity ≡ n.identity
   one_identity StationRun.begin m n h k e f same = absurd h

@@ -3,27 +3,24 @@ ghost use Rattle.std.specs.Prelude.{◌≡◌, true, MatchResult};
 ghost use Rattle.station.specs.Stations.{Answers, Took, sound_clock, admits, is_held, closing, ignoring, LossRefused, on_access, on_talker_indication, on_end, air_heard, radio_lost};
 
 use super::parts::{acted, ignored};
-use super::row::{Pending, Phase, Station, StationRefusal, StationStep, StationTimers};
+use super::row::{
+    Pending, Phase, Station, StationMoment, StationRefusal, StationStep, StationTimers,
+};
 use messages::{Cause, Kind, Message, Outbox, Post, UplinkKind};
 use schemes::RankScheme;
-use timing::Time;
 
 impl Station {
     // Hears a message from a mobile.
     pub fn hear_air<S: RankScheme>(
         &mut self,
         scheme: &S,
-        number: u8,
         message: Message,
-        time: Time,
-        timers: StationTimers,
+        at: StationMoment,
     ) -> Result<StationStep, StationRefusal>
-        ensures { Answers timers.period.ms self.old (air_heard (S.RankScheme.above scheme.now) number time.ms timers.link.ms message self.old) self.new result }
+        ensures { Answers at.timers.period.ms self.old (air_heard (S.RankScheme.above scheme.now) at.number at.time.ms at.timers.link.ms message self.old) self.new result }
     {
-        if !self.has_sound_clock(timers.period) {
-            return Err(StationRefusal::BrokenClock);
-        }
-        Ok(self.answer(scheme, number, message, time, timers))
+        self.check_clock(at.timers.period)?;
+        Ok(self.answer(scheme, message, at))
     }
 
     // The radio of the talker that is held here is lost.
@@ -34,9 +31,7 @@ impl Station {
     ) -> Result<StationStep, StationRefusal>
         ensures { MatchResult result (λ step. (sound_clock timers.period.ms self.old.phase self.old.clock ≡ true) × (is_held self.old.phase ≡ true) × Took (radio_lost number self.old) self.new step) (λ refusal. LossRefused timers.period.ms self.old refusal × (self.new ≡ self.old)) }
     {
-        if !self.has_sound_clock(timers.period) {
-            return Err(StationRefusal::BrokenClock);
-        }
+        self.check_clock(timers.period)?;
         if !self.is_held() {
             return Err(StationRefusal::NotHeld);
         }
@@ -52,45 +47,44 @@ impl Station {
     fn answer<S: RankScheme>(
         &mut self,
         scheme: &S,
-        number: u8,
         message: Message,
-        time: Time,
-        timers: StationTimers,
+        at: StationMoment,
     ) -> StationStep
-        ensures { Took (air_heard (S.RankScheme.above scheme.now) number time.ms timers.link.ms message self.old) self.new result }
+        ensures { Took (air_heard (S.RankScheme.above scheme.now) at.number at.time.ms at.timers.link.ms message self.old) self.new result }
     {
         let Kind::Uplink(kind) = message.kind else {
             return ignored();
         };
         match kind {
-            UplinkKind::Access => self.access(scheme, number, message, time, timers),
-            UplinkKind::TalkerIndication => self.talker_indication(number, message),
-            UplinkKind::End => self.end(number, message),
+            UplinkKind::Access => self.access(scheme, message, at),
+            UplinkKind::TalkerIndication => self.talker_indication(at.number, message),
+            UplinkKind::End => self.end(at.number, message),
         }
     }
 
     fn access<S: RankScheme>(
         &mut self,
         scheme: &S,
-        number: u8,
         message: Message,
-        time: Time,
-        timers: StationTimers,
+        at: StationMoment,
     ) -> StationStep
-        ensures { Took (on_access (S.RankScheme.above scheme.now) number time.ms timers.link.ms message self.old) self.new result }
+        ensures { Took (on_access (S.RankScheme.above scheme.now) at.number at.time.ms at.timers.link.ms message self.old) self.new result }
     {
         if self.pending.is_some() || !self.admits(scheme, message.rank) {
             return ignored();
         }
-        let reference = message.reference;
-        let rank = message.rank;
-        let deadline = time.ms() + timers.link.ms();
+        let Message {
+            reference,
+            rank,
+            ..
+        } = message;
+        let deadline = at.time.ms() + at.timers.link.ms();
         self.pending = Some(Pending {
             reference,
             rank,
             deadline,
         });
-        acted(Outbox::one(Post::Wire(Message::request(number, reference, rank))))
+        acted(Outbox::one(Post::Wire(Message::request(at.number, reference, rank))))
     }
 
     // Free, or in a phase whose rank this one is above.
@@ -100,10 +94,10 @@ impl Station {
         match self.phase {
             Phase::Shut => false,
             Phase::Free => true,
-            Phase::Seized { rank: held } => scheme.is_above(rank, held),
-            Phase::Granted { rank: held, .. } => scheme.is_above(rank, held),
-            Phase::Held { rank: held, .. } => scheme.is_above(rank, held),
-            Phase::Closing { rank: held, .. } => scheme.is_above(rank, held),
+            Phase::Seized { rank: held }
+            | Phase::Granted { rank: held, .. }
+            | Phase::Held { rank: held, .. }
+            | Phase::Closing { rank: held, .. } => scheme.is_above(rank, held),
         }
     }
 
@@ -142,12 +136,10 @@ impl Station {
     fn close(&mut self, number: u8, cause: Cause) -> StationStep
         ensures { Took (closing self.old.phase cause number self.old (ignoring self.old)) self.new result }
     {
-        match self.phase {
-            Phase::Held { rank, .. } => {
-                self.phase = Phase::Closing { rank, cause };
-                acted(Outbox::one(Post::Wire(Message::release_indication(number, self.top, cause))))
-            }
-            _ => ignored(),
-        }
+        let Phase::Held { rank, .. } = self.phase else {
+            return ignored();
+        };
+        self.phase = Phase::Closing { rank, cause };
+        acted(Outbox::one(Post::Wire(Message::release_indication(number, self.top, cause))))
     }
 }

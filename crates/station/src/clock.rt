@@ -6,7 +6,7 @@ use timing::Period;
 mod notices;
 
 // A clock as it stands in a station's row, sound or not.
-#[derive(Clone, Copy)]
+#[derive(Clone, Copy, Default)]
 pub struct ClockRow {
     // the time of the last restart
     pub start: u64,

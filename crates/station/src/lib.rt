@@ -11,6 +11,7 @@ mod wire;
 
 pub use clock::{Clock, ClockRow};
 pub use row::{
-    Pending, Phase, Station, StationOutcome, StationRefusal, StationStep, StationTimers,
+    Pending, Phase, Station, StationMoment, StationOutcome, StationRefusal, StationStep,
+    StationTimers,
 };
 pub use theorems::laws_hold;

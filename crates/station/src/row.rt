@@ -1,12 +1,13 @@
 // A station's row, and what its steps give.
 use super::clock::ClockRow;
 use messages::{Cause, Outbox};
-use timing::{Period, Timer};
+use timing::{Period, Time, Timer};
 
 // Free, Seized, Granted, Held and Closing concern the grant `top`; the last four have that grant's rank.
-#[derive(Clone, Copy)]
+#[derive(Clone, Copy, Default)]
 pub enum Phase {
     // no word from the anchor yet
+    #[default]
     Shut,
     Free,
     // another station has the uplink
@@ -27,7 +28,7 @@ pub struct Pending {
     pub deadline: u64,
 }
 
-#[derive(Clone, Copy)]
+#[derive(Clone, Copy, Default)]
 pub struct Station {
     pub phase: Phase,
     // the highest grant number obeyed
@@ -40,6 +41,14 @@ pub struct Station {
 pub struct StationTimers {
     pub link: Timer,
     pub period: Period,
+}
+
+// When a station takes a step: which station it is, the time, and its timers.
+#[derive(Clone, Copy)]
+pub struct StationMoment {
+    pub number: u8,
+    pub time: Time,
+    pub timers: StationTimers,
 }
 
 #[derive(Clone, Copy)]

@@ -1,88 +1,64 @@
 // A station's step on a message from the anchor.
-ghost use Rattle.station.specs.Stations.{Answers, Took, enter_granted, give_back, obey_acknowledge, on_seized, on_release_command, on_reject, wire_heard};
+ghost use Rattle.std.specs.Prelude.{◌≡◌};
+ghost use Rattle.station.specs.Stations.{Answers, Took, station_row, restarted, enter_granted, give_back, obey_acknowledge, on_seized, on_release_command, on_reject, wire_heard};
 
 use super::clock::Clock;
 use super::parts::{acted, ignored};
-use super::row::{Phase, Station, StationRefusal, StationStep, StationTimers};
+use super::row::{Phase, Station, StationMoment, StationRefusal, StationStep};
 use messages::{Cause, Kind, Message, Outbox, Post, StationKind};
-use timing::Time;
 
 impl Station {
     // Hears a message from the anchor.
     pub fn hear_wire(
         &mut self,
-        number: u8,
         message: Message,
-        time: Time,
-        timers: StationTimers,
+        at: StationMoment,
     ) -> Result<StationStep, StationRefusal>
-        ensures { Answers timers.period.ms self.old (wire_heard number time.ms timers.link.ms timers.period.ms message self.old) self.new result }
+        ensures { Answers at.timers.period.ms self.old (wire_heard at.number at.time.ms at.timers.link.ms at.timers.period.ms message self.old) self.new result }
     {
-        if !self.has_sound_clock(timers.period) {
-            return Err(StationRefusal::BrokenClock);
-        }
-        Ok(self.obey(number, message, time, timers))
+        self.check_clock(at.timers.period)?;
+        Ok(self.obey(message, at))
     }
 
-    fn obey(
-        &mut self,
-        number: u8,
-        message: Message,
-        time: Time,
-        timers: StationTimers,
-    ) -> StationStep
-        ensures { Took (wire_heard number time.ms timers.link.ms timers.period.ms message self.old) self.new result }
+    fn obey(&mut self, message: Message, at: StationMoment) -> StationStep
+        ensures { Took (wire_heard at.number at.time.ms at.timers.link.ms at.timers.period.ms message self.old) self.new result }
     {
         let Kind::Station(kind) = message.kind else {
             return ignored();
         };
         match (kind, self.phase) {
             (StationKind::Acknowledge, Phase::Shut) => ignored(),
-            (StationKind::Acknowledge, _) => self.acknowledge(number, message, time, timers),
+            (StationKind::Acknowledge, _) => self.acknowledge(message, at),
             (StationKind::Reject, _) => self.reject(message),
-            (StationKind::Seized, _) => self.seize(number, message, time, timers),
-            (StationKind::ReleaseCommand, _) => self.release(number, message, time, timers),
+            (StationKind::Seized, _) => self.seize(message, at),
+            (StationKind::ReleaseCommand, _) => self.release(message, at),
         }
     }
 
-    fn acknowledge(
-        &mut self,
-        number: u8,
-        message: Message,
-        time: Time,
-        timers: StationTimers,
-    ) -> StationStep
-        ensures { Took (obey_acknowledge number time.ms timers.link.ms timers.period.ms message self.old) self.new result }
+    fn acknowledge(&mut self, message: Message, at: StationMoment) -> StationStep
+        ensures { Took (obey_acknowledge at.number at.time.ms at.timers.link.ms at.timers.period.ms message self.old) self.new result }
     {
         if message.grant <= self.top {
             return ignored();
         }
         if self.is_pending(message.reference, message.rank) {
-            self.enter_granted(number, message, time, timers)
+            self.enter_granted(message, at)
         } else {
-            self.give_back(number, message)
+            self.give_back(at.number, message)
         }
     }
 
-    fn enter_granted(
-        &mut self,
-        number: u8,
-        message: Message,
-        time: Time,
-        timers: StationTimers,
-    ) -> StationStep
-        ensures { Took (enter_granted number time.ms timers.link.ms timers.period.ms message self.old) self.new result }
+    fn enter_granted(&mut self, message: Message, at: StationMoment) -> StationStep
+        ensures { Took (enter_granted at.number at.time.ms at.timers.link.ms at.timers.period.ms message self.old) self.new result }
     {
-        let grant = Message::grant(number, message.reference, message.rank, message.grant);
-        let busy = Message::busy(number, message.rank);
-        let outbox = self.leaving_then_two(number, Post::Air(grant), Post::Air(busy));
-        self.phase = Phase::Granted {
-            rank: message.rank,
-            deadline: time.ms() + timers.link.ms(),
-        };
-        self.top = message.grant;
+        let rank = message.rank;
+        let grant = Message::grant(at.number, message.reference, rank, message.grant);
+        let mut outbox = self.leaving(at.number);
+        outbox.push(Post::Air(grant));
+        outbox.push(Post::Air(Message::busy(at.number, rank)));
+        let deadline = at.time.ms() + at.timers.link.ms();
         self.pending = None;
-        self.clock = Clock::started(time, timers.period).to_row();
+        self.enter(Phase::Granted { rank, deadline }, message.grant, at);
         acted(outbox)
     }
 
@@ -91,7 +67,8 @@ impl Station {
     {
         let cause = Cause::RadioMessageFailure;
         let indication = Message::release_indication(number, message.grant, cause);
-        let outbox = self.leaving_then(number, Post::Wire(indication));
+        let mut outbox = self.leaving(number);
+        outbox.push(Post::Wire(indication));
         self.phase = Phase::Closing {
             rank: message.rank,
             cause,
@@ -100,36 +77,21 @@ impl Station {
         acted(outbox)
     }
 
-    fn seize(
-        &mut self,
-        number: u8,
-        message: Message,
-        time: Time,
-        timers: StationTimers,
-    ) -> StationStep
-        ensures { Took (on_seized number time.ms timers.period.ms message self.old) self.new result }
+    fn seize(&mut self, message: Message, at: StationMoment) -> StationStep
+        ensures { Took (on_seized at.number at.time.ms at.timers.period.ms message self.old) self.new result }
     {
-        let rank = message.rank;
-        let grant = message.grant;
+        let Message { rank, grant, .. } = message;
         if grant <= self.top {
             return ignored();
         }
-        let clock = Clock::started(time, timers.period);
-        let outbox = self.leaving_then(number, Post::Air(Message::busy(number, rank)));
-        self.phase = Phase::Seized { rank };
-        self.top = grant;
-        self.clock = clock.to_row();
+        let mut outbox = self.leaving(at.number);
+        outbox.push(Post::Air(Message::busy(at.number, rank)));
+        self.enter(Phase::Seized { rank }, grant, at);
         acted(outbox)
     }
 
-    fn release(
-        &mut self,
-        number: u8,
-        message: Message,
-        time: Time,
-        timers: StationTimers,
-    ) -> StationStep
-        ensures { Took (on_release_command number time.ms timers.period.ms message self.old) self.new result }
+    fn release(&mut self, message: Message, at: StationMoment) -> StationStep
+        ensures { Took (on_release_command at.number at.time.ms at.timers.period.ms message self.old) self.new result }
     {
         if message.grant < self.top {
             return ignored();
@@ -138,11 +100,19 @@ impl Station {
             self.top = message.grant;
             return acted(Outbox::new());
         }
-        let outbox = self.leaving_then(number, Post::Air(Message::free(number)));
-        self.phase = Phase::Free;
-        self.top = message.grant;
-        self.clock = Clock::started(time, timers.period).to_row();
+        let mut outbox = self.leaving(at.number);
+        outbox.push(Post::Air(Message::free(at.number)));
+        self.enter(Phase::Free, message.grant, at);
         acted(outbox)
+    }
+
+    // Enters Free, Seized or Granted for this grant, which restarts the clock.
+    fn enter(&mut self, phase: Phase, top: u32, at: StationMoment)
+        ensures { self.new ≡ station_row phase top self.old.pending (restarted at.time.ms at.timers.period.ms) }
+    {
+        self.phase = phase;
+        self.top = top;
+        self.clock = Clock::started(at.time, at.timers.period).into();
     }
 
     fn reject(&mut self, message: Message) -> StationStep

@@ -1,7 +1,7 @@
 -- The call that the run is of: its opening, the tables after each step, and the exchanges.
 -- Assumes nothing.
 use Rattle.std.proofs.Common.{ℕ, List, [], ◌∷◌, ◌++◌, Some, None, Option, lit≤}
-use Rattle.timing.specs.declared.timer.Timer.{Timer}
+use Rattle.timing.specs.Types.{Timer}
 use Rattle.mobile.specs.declared.row.Attempt.TheVariants.{First}
 use Rattle.mobile.specs.declared.row.Mobile.{Mobile}
 use Rattle.mobile.specs.declared.row.State.{State}

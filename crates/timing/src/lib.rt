@@ -1,10 +1,6 @@
-// Times, periods and timers within their limits, in whole milliseconds. A value of one of these types is always in range.
+// Times, periods and timers within their limits, in whole milliseconds.
 #![tactic(auto)]
 
-mod period;
-mod time;
-mod timer;
+mod millis;
 
-pub use period::Period;
-pub use time::Time;
-pub use timer::Timer;
+pub use millis::{Millis, Period, Time, Timer};

@@ -41,12 +41,7 @@ impl Carrier for Line {
     }
 
     fn hear(&mut self, address: u16, _listener: u16) -> Option<Message> {
-        let Some(message) = self.waiting else {
-            return None;
-        };
-        if message.address != address {
-            return None;
-        }
+        let message = self.waiting.filter(|message| message.address == address)?;
         self.waiting = None;
         Some(message)
     }

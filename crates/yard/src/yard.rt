@@ -5,7 +5,7 @@ ghost use Rattle.engine.specs.Lists.{exchanges};
 
 use super::line::Line;
 use anchor::Entry;
-use call::{Answer, Call, GroupCall, Refusal, SettingNumbers, Subscriber};
+use call::{Answer, Call, CallSetup, GroupCall, Refusal};
 use dispatch::LentTables;
 use engine::conduct;
 use mobile::Mobile;
@@ -21,11 +21,10 @@ pub struct Yard {
 }
 
 impl Yard {
-    // Opens a call for the yard's subscribers and plays a list of calls on it. The host's own contract says the guarantee of its tables.
+    // Opens a call as it is set up, and plays a list of calls on it. The host's own contract says the guarantee of its tables.
     pub fn lesson<S: RankScheme>(
         &mut self,
-        numbers: &SettingNumbers,
-        subscribers: &[Subscriber; 2],
+        setup: &CallSetup<'_>,
         scheme: &S,
         calls: &[Call],
         answers: &mut [Answer],
@@ -38,8 +37,7 @@ impl Yard {
             book: &mut self.book,
         };
         conduct(
-            numbers,
-            subscribers,
+            setup,
             &mut tables,
             scheme,
             &mut self.air,

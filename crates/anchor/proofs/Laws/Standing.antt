@@ -2,6 +2,7 @@
 -- Assumes nothing.
 use Rattle.std.proofs.Common.{◌≡◌, ℕ, ◌+◌, ◌-◌, ◌<◌, ◌≤◌, Bool, true, false, cond, ◌&&◌, ltb, leb, ◌⊎◌, List, length, get_or, Some, None, sym, refl, ap, ◌∙◌, inl, inr, arith}
 use Rattle.std.proofs.lemmas.Bool.{cases_lt, cond-true, cond-false, and_from, and_left, and_right, lt-ltb, le-ltb, le-leb, lt-leb}
+use Rattle.std.proofs.lemmas.List.{get_or_default}
 use Rattle.anchor.specs.declared.entry.End.{End}
 use Rattle.anchor.specs.declared.entry.End.TheVariants.{Stands, Ended, Preempted}
 use Rattle.anchor.specs.declared.entry.Entry.{Entry}
@@ -19,6 +20,12 @@ standing_outside book last (inl none) =
     cond-false (ltb 0 last && leb last (length book)) _ _ (and_left (ltb 0 last) (leb last (length book)) (le-ltb 0 last (omega arith)))
 standing_outside book last (inr past) =
     cond-false (ltb 0 last && leb last (length book)) _ _ (and_right (ltb 0 last) (leb last (length book)) (lt-leb last (length book) past))
+
+-- the entry at the last grant's place decides
+pub standing_at : (book : List Entry) (last place : ℕ) (e d : Entry) → place + 1 ≡ last → place < length book → e ≡ get_or book place d → standing book last ≡ if_stands e
+standing_at book last place e d at inside is =
+    standing_within book last (omega arith) (omega arith)
+    ∙ ap if_stands (sym (is ∙ get_or_default book place d no_entry inside ∙ ap (λ i. get_or book i no_entry) (omega arith)))
 
 -- the entry of a grant that stands
 pub record Held (book : List Entry) (last : ℕ) (e : Entry) : Type 0 where

@@ -18,22 +18,16 @@ impl GroupCall {
     ) -> Option<GroupCall>
         ensures { MatchOption result ((between 1 200 mobiles && between 1 4096 places) ≡ false) (λ c. (frame_of c ≡ record { settings = settings; mobile_count = mobiles; station_count = stations.count; places = places }) × (c.last ≡ 0) × (c.time.ms ≡ 0)) }
     {
-        if mobiles < 1 || mobiles > 200 {
+        if mobiles < 1 || mobiles > 200 || places < 1 || places > 4096 {
             return None;
         }
-        if places < 1 || places > 4096 {
-            return None;
-        }
-        let Some(time) = Time::new(0) else {
-            return None;
-        };
         Some(GroupCall {
             settings,
             mobiles,
             stations,
             places,
             last: 0,
-            time,
+            time: Time::new(0)?,
         })
     }
 

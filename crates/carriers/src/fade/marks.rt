@@ -5,6 +5,7 @@ ghost use Rattle.carriers.specs.FadesLemmas.{mark_kept, mark_lost};
 
 use super::super::carrier::Carrier;
 use super::Fade;
+use super::mark::Mark;
 use messages::Message;
 
 impl<C: Carrier> Fade<C> {
@@ -35,16 +36,16 @@ impl<C: Carrier> Carrier for Fade<C> {
     ghost heard = { λ c a l o d h. C.Carrier.heard c.under a l o d.under h.0 };
 
     fn say(&mut self, message: Message) -> bool {
-        let mark = self.marks[self.next];
-        self.next = if self.next < 63 { self.next + 1 } else { 0 };
+        let mark = Mark::from(self.marks[self.next]);
+        self.next = (self.next + 1) % 64;
         match mark {
-            1 => false,
-            2 => {
+            Mark::Loses => false,
+            Mark::Repeats => {
                 let first = self.under.say(message);
                 let second = self.under.say(message);
                 first || second
             }
-            _ => self.under.say(message),
+            Mark::Passes => self.under.say(message),
         }
     }
 

@@ -1,11 +1,12 @@
 // The Queue's steps.
 ghost use Rattle.std.specs.Prelude.{◌≡◌, [], IfOk, MatchOption};
+ghost use Rattle.std.specs.List.{find};
 ghost use Rattle.std.proofs.Common.{sym, subst, ◌∙◌, rules};
-ghost use Rattle.carriers.specs.Firsts.{Nowhere, FirstAt, first};
+ghost use Rattle.carriers.specs.Firsts.{Nowhere, FirstAt};
 ghost use Rattle.carriers.specs.Queues.{has_room, enqueued, goes_to, oldest, without_oldest};
 ghost use Rattle.std.proofs.lemmas.Bool.{cond-true};
 ghost use Rattle.carriers.specs.Meaning.{Joined, Within, FromList};
-ghost use Rattle.carriers.specs.Lists.{joined_push, within_without_first, first_on};
+ghost use Rattle.carriers.specs.Lists.{joined_push, within_without_first, found_on};
 ghost use Rattle.carriers.specs.QueueCarrierLemmas.{oldest_from};
 
 use super::super::carrier::Carrier;
@@ -28,12 +29,9 @@ impl Queue {
 fn place(waiting: &[Message], address: u16) -> Option<usize>
     ensures { MatchOption result (Nowhere (goes_to address) waiting.now) (λ i. FirstAt (goes_to address) waiting.now i) }
 {
-    for (i, message) in waiting.iter().enumerate() {
-        if message.address == address {
-            return Some(i);
-        }
-    }
-    None
+    waiting
+        .iter()
+        .position(|message| message.address == address)
 }
 
 impl Carrier for Queue {
@@ -52,7 +50,7 @@ impl Carrier for Queue {
     ghost heard = { λ c a l o d h.
         let waiting = c.waiting.items in
         record {
-          from = subst (λ q. FromList a q waiting) (sym h.0) (oldest_from a waiting (first (goes_to a) waiting) (first_on (λ m. m) (goes_to a) waiting));
+          from = subst (λ q. FromList a q waiting) (sym h.0) (oldest_from a waiting (find (goes_to a) waiting) (found_on (λ m. m) (goes_to a) waiting));
           only = subst (Within waiting) (sym h.1) (within_without_first (goes_to a) waiting);
         } };
 
@@ -65,10 +63,8 @@ impl Carrier for Queue {
     }
 
     fn hear(&mut self, address: u16, _listener: u16) -> Option<Message> {
-        match place(&self.waiting, address) {
-            Some(i) => Some(self.waiting.remove(i)),
-            None => None,
-        }
+        let place = place(&self.waiting, address)?;
+        Some(self.waiting.remove(place))
     }
 
     fn quiet(&self) -> bool {

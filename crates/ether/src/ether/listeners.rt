@@ -1,7 +1,8 @@
 // The Ether's steps.
-ghost use Rattle.std.specs.Prelude.{◌≡◌, true, [], map, IfOk};
+ghost use Rattle.std.specs.Prelude.{◌≡◌, ◌≤◌, true, [], map, IfOk, MatchOption};
 ghost use Rattle.std.proofs.Common.{sym, subst, rules};
-ghost use Rattle.ether.specs.Ethers.{slots_of, message_in, with_newest, next_heard, after_hearing};
+ghost use Rattle.ether.specs.Ethers.{slots_of, message_in, with_newest, unheard, next_heard, after_hearing};
+ghost use Rattle.carriers.specs.Firsts.{Nowhere, FirstAt};
 ghost use Rattle.carriers.specs.Meaning.{Joined, Picked};
 ghost use Rattle.ether.specs.EtherCarrierLemmas.{joined_newest, picked};
 
@@ -10,6 +11,7 @@ use super::Ether;
 use carriers::Carrier;
 use messages::Message;
 use std::alloc::{AllocError, Global};
+use std::collections::VecDeque;
 
 impl Ether {
     // An ether to which nothing has been said, with room for all that it keeps.
@@ -17,9 +19,18 @@ impl Ether {
         ensures { IfOk result (λ e. slots_of e ≡ []) }
     {
         Ok(Ether {
-            slots: Vec::with_capacity(heap, 32)?,
-            oldest: 0,
+            slots: VecDeque::with_capacity(heap, 32)?,
         })
+    }
+
+    // The place of the oldest message with the address that the listener has not heard.
+    fn place(&self, address: u16, listener: u16) -> Option<usize>
+        requires { listener ≤ 208 }
+        ensures { MatchOption result (Nowhere (unheard address listener) (slots_of self.now)) (λ i. FirstAt (unheard address listener) (slots_of self.now) i) }
+    {
+        self.slots
+            .iter()
+            .position(|slot| slot.is_unheard(address, listener))
     }
 }
 
@@ -39,26 +50,25 @@ impl Carrier for Ether {
         (subst (λ after. Picked a (next_heard a l (slots_of c)) (map message_in (slots_of c)) (map message_in after)) (sym h.1) (picked a l (slots_of c))) };
 
     fn say(&mut self, message: Message) -> bool {
-        let slot = Slot::fresh(message);
-        if self.len() < 32 {
-            self.append(slot);
-        } else {
-            self.replace_oldest(slot);
+        if self.slots.len() >= 32 {
+            self.slots.pop_front();
         }
+        self.slots.push_back_reserved(Slot::fresh(message));
         true
     }
 
+    #[tactic(auto, using(crate::proofs::Hearing::heard_there, crate::proofs::Hearing::marked_there))]
     fn hear(&mut self, address: u16, listener: u16) -> Option<Message> {
         if listener > 208 {
             return None;
         }
-        match self.place(address, listener) {
-            Some(i) => Some(self.mark(i, listener)),
-            None => None,
-        }
+        let place = self.place(address, listener)?;
+        let slot = &mut self.slots[place];
+        slot.mark(listener);
+        Some(slot.message)
     }
 
     fn quiet(&self) -> bool {
-        self.is_empty()
+        self.slots.is_empty()
     }
 }

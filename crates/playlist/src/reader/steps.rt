@@ -4,6 +4,7 @@ ghost use Rattle.playlist.specs.Stands.{first_stand, next_entry, next_stand, sta
 
 use super::super::fault::Fault;
 use super::super::line::Line;
+use super::super::line_fault::LineFault;
 use super::super::order::may_end;
 use super::super::place::Place;
 use super::super::reading::read_line;
@@ -31,6 +32,7 @@ impl<'a> Reader<'a> {
     }
 
     // The next line, none at the end, or the fault; after a fault and at the end it stays where it is.
+    // It is no iterator, since after a fault it gives the same fault again and never ends.
     pub fn next(&mut self) -> Result<Option<Line<'a>>, Fault>
         ensures gives { told result ≡ next_entry (stand_of self.old) }
         ensures moves { stand_of self.new ≡ next_stand (stand_of self.old) }
@@ -39,16 +41,11 @@ impl<'a> Reader<'a> {
             return self.end();
         }
         let line = self.line;
-        let place = self.place;
-        match read_line(place, self.rest) {
-            Ok(standing) => {
-                self.rest = standing.rest;
-                self.line = line + 1;
-                self.place = standing.place;
-                Ok(Some(standing.line))
-            }
-            Err(field) => Err(Fault { line, field }),
-        }
+        let standing = read_line(self.place, self.rest).map_err(|fault| fault.at(line))?;
+        self.rest = standing.rest;
+        self.line = line + 1;
+        self.place = standing.place;
+        Ok(Some(standing.line))
     }
 
     // What the end of the text gives.
@@ -60,9 +57,6 @@ impl<'a> Reader<'a> {
         if may_end(self.place) {
             return Ok(None);
         }
-        Err(Fault {
-            line: self.line,
-            field: 0,
-        })
+        Err(LineFault::Form.at(self.line))
     }
 }

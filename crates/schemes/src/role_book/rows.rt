@@ -38,12 +38,7 @@ impl RoleBook {
 fn all_in_limits(roles: &[Role]) -> bool
     ensures { result ≡ every_in_limits roles.now }
 {
-    for role in roles {
-        if !role.in_limits() {
-            return false;
-        }
-    }
-    true
+    roles.iter().all(|role| role.in_limits())
 }
 
 impl RankScheme for RoleBook {

@@ -7,6 +7,7 @@ use timing::{Period, Time};
 
 impl Clock {
     // The clock of a row; none where the row's due time is not a whole number of periods, at least one, after its start.
+    // A period is needed besides the row, so this is no TryFrom.
     pub fn from_row(row: ClockRow, period: Period) -> Option<Clock>
         ensures { MatchOption result (sound row.start period.ms row.due ≡ false) (λ c. (c.start ≡ row.start) × (c.due ≡ row.due) × (c.period ≡ period)) }
     {
@@ -16,16 +17,6 @@ impl Clock {
             return None;
         }
         Some(Clock { start, due, period })
-    }
-
-    // Its numbers, to be put back into the row.
-    pub fn to_row(self) -> ClockRow
-        ensures { (result.start ≡ self.start) × (result.due ≡ self.due) }
-    {
-        ClockRow {
-            start: self.start,
-            due: self.due,
-        }
     }
 
     // When the next notice is due.
@@ -55,7 +46,7 @@ impl Clock {
     {
         Clock {
             start: time.ms(),
-            due: first_due(time, period),
+            due: time.ms() + period.ms(),
             period,
         }
     }
@@ -70,25 +61,31 @@ impl Clock {
         if time.ms() < self.due {
             return false;
         }
-        let start = self.start;
-        let period = self.period;
-        let due = due_after(start, period, time);
-        *self = Clock { start, due, period };
+        self.due = self.due_after(time);
         true
+    }
+
+    // The first time of the grid after `time`.
+    #[tactic(auto, using(crate::proofs::Clocks::next_on_grid))]
+    fn due_after(&self, time: Time) -> u64
+        requires { self.now.start < time.ms }
+        ensures is { result ≡ next_due self.now.start self.now.period.ms time.ms }
+        ensures later { self.now.start < result }
+        ensures grid { (result - self.now.start) % self.now.period.ms ≡ 0 }
+    {
+        let ms = time.ms();
+        ms + (self.period.ms() - (ms - self.start) % self.period.ms())
     }
 }
 
-fn first_due(time: Time, period: Period) -> u64
-    ensures { (result ≡ time.ms + period.ms) × ((result - time.ms) % period.ms ≡ 0) × (time.ms < result) }
-{
-    time.ms() + period.ms()
-}
+// A clock's numbers, to be put back into its row.
+impl From<Clock> for ClockRow {
+    ghost from_gives = { λ clock row. (row.start ≡ clock.start) × (row.due ≡ clock.due) };
 
-// The first time of the grid after `time`.
-fn due_after(start: u64, period: Period, time: Time) -> u64
-    requires { start < time.ms }
-    ensures { (result ≡ next_due start period.ms time.ms) × (start < result) × ((result - start) % period.ms ≡ 0) × FirstAfter start period.ms time.ms result }
-{
-    let ms = time.ms();
-    ms + (period.ms() - (ms - start) % period.ms())
+    fn from(clock: Clock) -> ClockRow {
+        ClockRow {
+            start: clock.start,
+            due: clock.due,
+        }
+    }
 }

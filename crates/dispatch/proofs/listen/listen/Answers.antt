@@ -1,6 +1,7 @@
 use Rattle.std.proofs.Common.{◌≡◌, ap, ◌∙◌, rules}
 use Rattle.messages.specs.Addresses.{cell_at}
 use Rattle.call.specs.Effects.{nowhere, listening}
+use Rattle.call.specs.World.{no_mobile}
 use Rattle.dispatch.specs.Lent.{lent}
 use Rattle.dispatch.proofs.Hearings.{heard_nowhere, heard_on_air, heard_on_wire}
 use Rattle.dispatch.proofs.listen.listen.Goals as goal
@@ -9,7 +10,7 @@ pub returns-in-MobileHears : goal.returns-in-MobileHears
 returns-in-MobileHears g c group =
     heard_on_air g.A.Carrier.says g.W.Carrier.says g.A.Carrier.hears g.W.Carrier.hears
     (ap (listening (lent group c.args.tables.now)) c.in-MobileHears.is)
-    (c.cell_address.ensures ∙ ap (λ row. cell_at row.station) c.mobile_row-station.ensures)
+    (c.cell_address.ensures ∙ ap (λ row. cell_at row.station) (c.row-station.ensures no_mobile))
     c.mobile_listener.ensures
     c.hear.ensures
 

@@ -10,7 +10,7 @@ returns-in-MobileHears g c =
     let above = g.S.RankScheme.above c.args.scheme.now in
     let group = c.args.group.now in
     let tables = c.args.tables.now in
-    let quiet : effect_alone above (frame_of group) c.args.call.now (lent group tables) ≡ idle c.in-MobileHears.time (lent group tables) =
+    let quiet : effect_alone above (frame_of group) c.args.call.now (lent group tables) ≡ idle c.args.time.ms (lent group tables) =
     search rules in
     record {
       frame = c.stay_idle.ensures.frame;

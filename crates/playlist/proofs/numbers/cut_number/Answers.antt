@@ -1,23 +1,31 @@
-use Rattle.std.proofs.Common.{drop, sym, ap, ◌∙◌}
-use Rattle.playlist.proofs.Parting.{bad_lead, field_length, goes_on, good_number, too_many_digits}
+use Rattle.std.proofs.Common.{◌≡◌, drop, length, sym, ap, ◌∙◌, arith}
+use Rattle.playlist.specs.Scans.{digits_front}
+use Rattle.playlist.specs.Texts.{all_digits, has_shape, value_after}
+use Rattle.playlist.proofs.Parting.{bad_shape, field_length, front_digits, goes_on, good_number, length_front, some_number}
 use Rattle.playlist.proofs.numbers.cut_number.Goals as goal
-
-pub returns-in_default : goal.returns-in_default
-returns-in_default c = too_many_digits c.args.bytes.now c.in_default.ensures
 
 pub returns-then-not-stops : goal.returns-then-not-stops
 returns-then-not-stops c =
-    goes_on c.args.bytes.now c.in-Some.digits.len c.in-Some.ensures.2 c.if-not-stops.ensures
+    goes_on c.args.bytes.now (length c.digits_front-digits.result.now) (ap length c.digits_front-digits.ensures) c.if-not-stops.ensures
 
-pub returns-then-not-leads : goal.returns-then-not-leads
-returns-then-not-leads c =
-    bad_lead c.args.bytes.now c.in-Some.digits.len c.in-Some.ensures.2 c.if-not-stops.ensures c.in-Some.ensures.0 c.if-not-leads.ensures
+pub returns-then-not-has_shape : goal.returns-then-not-has_shape
+returns-then-not-has_shape c =
+    let is = c.digits_front-digits.ensures in
+    bad_shape c.args.bytes.now (length c.digits_front-digits.result.now) (ap length is) c.if-not-stops.ensures (c.if-not-has_shape.ensures ∙ ap has_shape is)
+
+pub value_of-requires-clause-all : goal.value_of-requires-clause-all
+value_of-requires-clause-all c = ap all_digits c.digits_front-digits.ensures ∙ front_digits c.args.bytes.now
+
+pub skip-requires : goal.skip-requires
+skip-requires c = omega (arith, ap length c.digits_front-digits.ensures, length_front c.args.bytes.now)
 
 pub returns : goal.returns
 returns c =
     let bs = c.args.bytes.now in
-    let len = c.in-Some.digits.len in
-    let known = c.in-Some.ensures in (
-      good_number bs len known.2 c.if-not-stops.ensures c.in-Some.digits.value known.0 c.if-not-leads.ensures known.3,
-      c.skip.ensures ∙ ap (λ n. drop n bs) (sym (field_length bs len known.2 c.if-not-stops.ensures)),
+    let is = c.digits_front-digits.ensures in
+    let len = length c.digits_front-digits.result.now in
+    let value : c.value_of.result ≡ value_after 0 (digits_front bs) = c.value_of.ensures ∙ ap (value_after 0) is in (
+      good_number bs len (ap length is) c.if-not-stops.ensures (c.if-not-has_shape.ensures ∙ ap has_shape is)
+          ∙ ap some_number (sym value),
+      c.skip.ensures ∙ ap (λ n. drop n bs) (sym (field_length bs len (ap length is) c.if-not-stops.ensures)),
     )

@@ -1,31 +1,39 @@
-use Rattle.std.proofs.Common.{vec_items}
+use Rattle.std.proofs.Common.{◌≡◌, ◌++◌, vec_items}
+use Rattle.std.proofs.lemmas.Result.{on_ok_weaker}
 use Rattle.playlist.specs.Meanings.{meant}
 use Rattle.playlist.specs.Stands.{reading_on, stand_of}
-use Rattle.playlist.proofs.Laws.{gave_line, gave_none, one_less, read_end, read_fault, read_one}
-use Rattle.printer.proofs.Walking.{one_line, at_end, at_fault}
+use Rattle.playlist.proofs.Laws.{one_less, read_end, read_fault, read_one}
+use Rattle.printer.specs.Prints.{Printed, opening_before}
+use Rattle.printer.proofs.Walking.{at_end, at_fault, one_line}
 use Rattle.printer.proofs.printing.put_rows.Goals as goal
+use Rattle.printer.proofs.printing.put_rows.Goals.{in_default, in_default-2}
 
 pub loop-next-smaller : goal.loop-next-smaller
 loop-next-smaller c =
     let s = stand_of c.loop-next.reader in
-    one_less s (stand_of c.next.new.self) (meant c.in-Some.line) (gave_line c.in-Ok.read c.in-Some.line s c.in-Some.is c.in-Ok.ensures.gives) c.next.ensures.moves
+    one_less c.next.result s c.next.ensures.gives (stand_of c.next.new.self) c.next.ensures.moves c.in-Ok-Some.line (cc)
 
 pub loop-next-preserved : goal.loop-next-preserved
 loop-next-preserved c =
     let s = stand_of c.loop-next.reader in
     let s' = stand_of c.next.new.self in
-    let e = meant c.in-Some.line in
-    one_line (vec_items c.args.out.now) (reading_on (stand_of c.args.reader)) (vec_items c.loop-next.out) (vec_items c.put_line.new.out) c.args.answers.now c.loop-next.next c.in_ok-next-in-Some.next e (reading_on s) (reading_on s')
-    (read_one s s' e (gave_line c.in-Ok.read c.in-Some.line s c.in-Some.is c.in-Ok.ensures.gives) c.next.ensures.moves) c.in_ok-next-in-Some.ensures.0 c.in_ok-next-in-Some.ensures.1 c.loop-next.invariant
+    let e = meant c.in-Ok-Some.line in
+    one_line (vec_items c.args.out.now) (reading_on (stand_of c.args.reader)) (vec_items c.loop-next.out) (vec_items c.put_line.new.out) c.args.answers.now c.loop-next.next c.in_ok-next.next e (reading_on s) (reading_on s')
+    (read_one c.next.result s c.next.ensures.gives s' c.next.ensures.moves c.in-Ok-Some.line (cc)) c.in_ok-next.ensures.0 c.in_ok-next.ensures.1 c.loop-next.invariant
 
-pub returns-in-None : goal.returns-in-None
-returns-in-None c =
+pub returns : goal.returns
+returns c =
     let s = stand_of c.loop-next.reader in
-    at_end (vec_items c.args.out.now) (reading_on (stand_of c.args.reader)) (vec_items c.loop-next.out) (vec_items c.put_opening_before.new.out) c.args.answers.now c.loop-next.next (reading_on s)
-    (read_end s (gave_none c.in-Ok.read s c.in-None.is c.in-Ok.ensures.gives)) c.in_ok-put_opening_before-in-None.ensures c.loop-next.invariant
-
-pub returns-in-Err : goal.returns-in-Err
-returns-in-Err c =
-    let s = stand_of c.loop-next.reader in
-    at_fault (vec_items c.args.out.now) (reading_on (stand_of c.args.reader)) (vec_items c.loop-next.out) (vec_items c.loop-next.out) c.args.answers.now c.loop-next.next c.in-Err._fault (reading_on s)
-    (read_fault s c.in-Err._fault c.in-Err.ensures.gives) c.loop-next.invariant
+    let start = vec_items c.args.out.now in
+    let first = reading_on (stand_of c.args.reader) in
+    let x = vec_items c.loop-next.out in
+    let y = vec_items c.put_opening_before.new.out in
+    let answers = c.args.answers.now in
+    let next = c.loop-next.next in
+    let all : y ≡ x ++ opening_before next → Printed start y answers 0 first =
+    λ put.
+    elim c.match-next.branch [
+      | in_default w ↦ at_end start first x y answers next (reading_on s) (read_end c.next.result s c.next.ensures.gives (cc)) put c.loop-next.invariant
+      | in_default-2 w ↦ at_fault start first x y answers next w.in_default.field-0 (reading_on s) (read_fault c.next.result s c.next.ensures.gives w.in_default.field-0 w.in_default.is) c.loop-next.invariant
+    ] in
+    on_ok_weaker c.put_opening_before.result all c.put_opening_before.ensures
