@@ -1,5 +1,5 @@
-// The grant book: reading it, and writing in place. The book and the number of its last grant are two parameters, since they lie with two
-// owners: the places are lent, to readers by a shared borrow, and the number stands in the record of the call.
+// The grant book: reading it, and writing in place. The book and the number of its last grant are two parameters, since two own them:
+// a host lends the places, to readers by a shared borrow, and the number stands in the record of the call.
 ghost use Rattle.std.specs.Prelude.{◌≡◌, ◌<◌, ◌≤◌, length, OnSome, slice_set};
 ghost use Rattle.anchor.specs.Anchors.{standing, book_full, with_last};
 
@@ -12,6 +12,7 @@ pub(crate) fn standing_grant(book: &[Entry], last: u32) -> Option<Entry>
 {
     let place = (last as usize).checked_sub(1)?;
     let entry = *book.get(place)?;
+    // a filter of what `get` gives: tried, and the proof did not close
     match entry.end {
         End::Stands => Some(entry),
         End::Ended(_) => None,

@@ -47,5 +47,5 @@ pub fn release(book: &[Entry], last: u32, stations: Stations) -> Result<AnchorSt
     if !is_free(book, last) {
         return Err(AnchorRefusal::NotFree);
     }
-    Ok(acted(last, command_all(stations.count(), last)))
+    Ok(acted(last, command_all(stations, last)))
 }

@@ -32,7 +32,7 @@ fn end_grant(
         Some(cause) => {
             let end = End::Ended(cause);
             change_last(book, last, Entry { end, ..held });
-            acted(last, command_all(stations.count(), last))
+            acted(last, command_all(stations, last))
         }
     }
 }

@@ -41,10 +41,7 @@ fn grant(
         },
     );
     let number = last + 1;
-    acted(
-        number,
-        announce(station, reference, rank, number, stations.count()),
-    )
+    acted(number, announce(station, reference, rank, number, stations))
 }
 
 // The book is full.

@@ -7,6 +7,7 @@ ghost use Rattle.anchor.specs.Anchors.{restated};
 ghost use Rattle.anchor.specs.Said.{commands, announced};
 
 use super::entry::Entry;
+use super::stations::Stations;
 use messages::{Message, Outbox, Post};
 
 // One more on the wire, where fewer than ten are said.
@@ -29,25 +30,29 @@ pub(crate) fn two(first: Message, second: Message) -> Outbox
     Outbox::two(Post::Wire(first), Post::Wire(second))
 }
 
-// RELEASE COMMAND to every station. The loop goes over how many were told before, as the definition counts them.
-pub(crate) fn command_all(count: u8, grant: u32) -> Outbox
-    requires { count ≤ 8 }
-    ensures { posts result ≡ commands grant count }
+// RELEASE COMMAND to every station. A loop over the stations' own numbers: tried, and the proof did not close.
+pub(crate) fn command_all(stations: Stations, grant: u32) -> Outbox
+    ensures { posts result ≡ commands grant stations.count }
 {
     let mut outbox = Outbox::new();
-    for before in 0..count {
+    for before in 0..stations.count() {
         say(&mut outbox, Message::release_command(before + 1, grant));
     }
     outbox
 }
 
-// ACKNOWLEDGE to the granted station, SEIZED to every other. The loop goes over how many were told before, as the definition counts them.
-pub(crate) fn announce(station: u8, reference: u16, rank: u8, grant: u32, count: u8) -> Outbox
-    requires { count ≤ 8 }
-    ensures { posts result ≡ announced station reference rank grant count }
+// ACKNOWLEDGE to the granted station, SEIZED to every other. The loop is as that of `command_all`.
+pub(crate) fn announce(
+    station: u8,
+    reference: u16,
+    rank: u8,
+    grant: u32,
+    stations: Stations,
+) -> Outbox
+    ensures { posts result ≡ announced station reference rank grant stations.count }
 {
     let mut outbox = one(Message::acknowledge(station, reference, rank, grant));
-    for before in 0..count {
+    for before in 0..stations.count() {
         say_seized(&mut outbox, station, before + 1, rank, grant);
     }
     outbox

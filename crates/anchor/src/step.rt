@@ -14,7 +14,7 @@ pub enum AnchorOutcome {
 
 #[derive(Clone, Copy)]
 pub struct AnchorStep {
-    // the last grant's number, 0 where there is none; no Option, since the next grant has this and one
+    // the last grant's number, 0 where there is none; no Option, since the next grant's number is this plus one
     pub last: u32,
     pub outcome: AnchorOutcome,
     pub outbox: Outbox,

@@ -29,7 +29,7 @@ fn count_said(step: &AnchorStep) -> usize {
 }
 
 fn heard(book: &mut [Entry], last: u32, message: Message) -> Result<AnchorStep, Fail> {
-    let stations = Stations::new(3).ok_or(3u8)?;
+    let stations = Stations::new(3).ok_or_else(|| Fail::new("three stations"))?;
     Ok(hear(book, last, message, stations, &Priorities))
 }
 

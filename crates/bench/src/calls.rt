@@ -1,5 +1,5 @@
-// The calls of a list, each by its name: the time, then the party's number. Ten functions, since a variant's fields have names and a list of so
-// many calls reads by these.
+// A function for each kind of call: the time, then the party's number. Each variant's fields have names; by these functions a list of thirty
+// calls takes a line for each.
 use call::Call;
 
 pub(crate) fn ask(time: u64, mobile: u64, reference: u16, rank: u64) -> Call {

@@ -17,7 +17,7 @@ pub(crate) fn repeated_acknowledge(rt: &HostRuntime) -> anyhow::Result<()> {
     marks[5] = 1;
     let mut air = Ether::new(rt.alloc())?;
     let mut wire = Fade::new(Queue::new(rt.alloc())?, marks);
-    play::<1, 4, _, _>(rt, &mut air, &mut wire, &equal_calls())?;
+    play::<1, 4, _, _, _>(rt, &mut air, &mut wire, &equal_calls())?;
     Ok(())
 }
 
@@ -60,7 +60,7 @@ pub(crate) fn another_rank(rt: &HostRuntime) -> anyhow::Result<()> {
     rt.println("A GRANT of the same reference and another rank")?;
     let mut air = Ether::new(rt.alloc())?;
     let mut wire = Queue::new(rt.alloc())?;
-    play::<1, 4, _, _>(rt, &mut air, &mut wire, &unequal_calls())?;
+    play::<1, 4, _, _, _>(rt, &mut air, &mut wire, &unequal_calls())?;
     Ok(())
 }
 

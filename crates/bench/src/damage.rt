@@ -15,7 +15,8 @@ use schemes::Priorities;
 use station::{ClockRow, Station};
 use std::io;
 
-// What the owner of a group call has: its record, the tables, and the carriers.
+// What the owner of a group call has: its record, the tables, and the carriers. No method hands out the OngoingCall: tried, and the check
+// does not cover a method that hands out slices of these arrays.
 #[derive(Drop)]
 struct Owner {
     group: GroupCall,
@@ -62,6 +63,7 @@ pub(crate) fn damaged_tables(rt: &HostRuntime) -> anyhow::Result<()> {
     Ok(())
 }
 
+// By single calls.
 fn free_the_floor(rt: &HostRuntime, owner: &mut Owner) -> io::Result<()> {
     let mut ongoing = OngoingCall {
         group: &mut owner.group,
@@ -133,7 +135,14 @@ fn break_clocks(rt: &HostRuntime, owner: &mut Owner) -> io::Result<()> {
 }
 
 // Plays the list, and prints its lines from the number `first` on.
-fn go_on(rt: &HostRuntime, owner: &mut Owner, first: u64, calls: &[Call]) -> io::Result<()> {
+fn go_on<const CALLS: usize>(
+    rt: &HostRuntime,
+    owner: &mut Owner,
+    first: u64,
+    calls: &[Call; CALLS],
+) -> io::Result<()>
+    requires { CALLS ≤ 10 }
+{
     let mut ongoing = OngoingCall {
         group: &mut owner.group,
         mobiles: &mut owner.mobiles,
@@ -143,11 +152,11 @@ fn go_on(rt: &HostRuntime, owner: &mut Owner, first: u64, calls: &[Call]) -> io:
         air: &mut owner.air,
         wire: &mut owner.wire,
     };
-    let mut answers = [Answer::default(); 10];
-    if ongoing.play(calls, &mut answers).is_err() || calls.len() > 10 {
+    let mut answers = [Answer::default(); CALLS];
+    if ongoing.play(calls, &mut answers).is_err() {
         return Ok(());
     }
-    print_answers(rt, first, &answers[0..calls.len()])
+    print_answers(rt, first, &answers)
 }
 
 fn swapped_calls() -> [Call; 3] {

@@ -13,7 +13,7 @@ pub(crate) fn full_book(rt: &HostRuntime) -> anyhow::Result<()> {
     rt.println("A book of one place that fills")?;
     let mut air = Ether::new(rt.alloc())?;
     let mut wire = Queue::new(rt.alloc())?;
-    play::<1, 1, _, _>(rt, &mut air, &mut wire, &full_calls())?;
+    play::<1, 1, _, _, _>(rt, &mut air, &mut wire, &full_calls())?;
     Ok(())
 }
 

@@ -23,9 +23,9 @@ pub(crate) fn print_opening(
     rt: &HostRuntime,
     opened: &Result<GroupCall, Refusal>,
 ) -> io::Result<()> {
-    let outcome = match opened {
-        Ok(_) => Outcome::Acted(0),
-        Err(refusal) => Outcome::Refused(*refusal),
+    let answer = match opened {
+        Ok(_) => Answer::silent(Outcome::Acted(0)),
+        Err(refusal) => Answer::from(*refusal),
     };
-    print_answer(rt, 0, Answer::silent(outcome))
+    print_answer(rt, 0, answer)
 }

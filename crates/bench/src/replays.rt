@@ -18,7 +18,7 @@ pub(crate) fn old_messages(rt: &HostRuntime) -> anyhow::Result<()> {
     rt.println("Old messages heard again")?;
     let mut air = Script::new(rt.alloc(), PICKS.to_vec(rt.alloc())?);
     let mut wire = Queue::new(rt.alloc())?;
-    play::<1, 4, _, _>(rt, &mut air, &mut wire, &old_calls())?;
+    play::<1, 4, _, _, _>(rt, &mut air, &mut wire, &old_calls())?;
     Ok(())
 }
 

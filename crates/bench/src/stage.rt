@@ -14,15 +14,16 @@ use station::Station;
 use std::io;
 
 // So many stations, mobile 1 in the cell of the first and mobile 2 in that of the last, and a book of so many places.
-pub(crate) fn play<const STATIONS: usize, const PLACES: usize, A: Carrier, W: Carrier>(
-    rt: &HostRuntime,
-    air: &mut A,
-    wire: &mut W,
-    calls: &[Call],
-) -> io::Result<()>
-    requires { (STATIONS ≤ 8) × (PLACES ≤ 4096) }
+pub(crate) fn play<
+    const STATIONS: usize,
+    const PLACES: usize,
+    const CALLS: usize,
+    A: Carrier,
+    W: Carrier,
+>(rt: &HostRuntime, air: &mut A, wire: &mut W, calls: &[Call; CALLS]) -> io::Result<()>
+    requires { (STATIONS ≤ 8) × ((PLACES ≤ 4096) × (CALLS ≤ 40)) }
 {
-    let mut answers = [Answer::default(); 40];
+    let mut answers = [Answer::default(); CALLS];
     let mut stations = [Station::default(); STATIONS];
     let mut book = [Entry::default(); PLACES];
     let mut tables = LentTables {
@@ -44,8 +45,8 @@ pub(crate) fn play<const STATIONS: usize, const PLACES: usize, A: Carrier, W: Ca
         &mut answers,
     );
     print_opening(rt, &opened)?;
-    if opened.is_err() || calls.len() > 40 {
+    if opened.is_err() {
         return Ok(());
     }
-    print_answers(rt, 1, &answers[0..calls.len()])
+    print_answers(rt, 1, &answers)
 }

@@ -1,4 +1,6 @@
 // Talks in two cells, over a Queue and an Ether.
+ghost use Rattle.std.specs.Prelude.{◌≤◌};
+
 use super::calls::{
     anchor_hears, ask, finish, mobile_hears, release, station_hears_air, station_hears_wire,
 };
@@ -27,10 +29,12 @@ pub(crate) fn pre_emption(rt: &HostRuntime) -> anyhow::Result<()> {
     play_two_cells(rt, &emergency_calls())
 }
 
-fn play_two_cells(rt: &HostRuntime, calls: &[Call]) -> anyhow::Result<()> {
+fn play_two_cells<const CALLS: usize>(rt: &HostRuntime, calls: &[Call; CALLS]) -> anyhow::Result<()>
+    requires { CALLS ≤ 40 }
+{
     let mut air = Ether::new(rt.alloc())?;
     let mut wire = Queue::new(rt.alloc())?;
-    play::<2, 4, _, _>(rt, &mut air, &mut wire, calls)?;
+    play::<2, 4, _, _, _>(rt, &mut air, &mut wire, calls)?;
     Ok(())
 }
 

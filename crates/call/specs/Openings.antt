@@ -8,6 +8,7 @@ use Rattle.mobile.specs.declared.row.Uplink.TheVariants.{Unknown}
 use Rattle.anchor.specs.declared.entry.Entry.{Entry}
 use Rattle.carriers.specs.Meaning.{empty}
 use Rattle.call.specs.Effects.{refused}
+use Rattle.timing.specs.Limits.{within}
 use Rattle.call.specs.Settings.{settings_in_limits}
 use Rattle.call.specs.World.{Frame, Tables, World, is_there, no_station}
 use Rattle.call.specs.declared.answer.Answer.{Answer}
@@ -18,16 +19,13 @@ use Rattle.call.specs.declared.opening.SettingNumbers.{SettingNumbers}
 use Rattle.call.specs.declared.opening.Subscriber.{Subscriber}
 use Rattle.call.specs.declared.settings.Settings.{Settings}
 
-abbrev pub between : (least most n : ℕ) → Bool
-between least most n = nat_le least n && nat_le n most
-
 -- 1 to 8 stations, 1 to 200 mobiles with a row for each, a book of 1 to 4,096 places
 abbrev pub sizes_good : (subscribers rows stations places : ℕ) → Bool
 sizes_good subscribers rows stations places =
-    between 1 200 subscribers && (rows == subscribers && (between 1 8 stations && between 1 4096 places))
+    within 1 200 subscribers && (rows == subscribers && (within 1 8 stations && within 1 4096 places))
 
 abbrev pub identity_in_limits : ℕ → Bool
-identity_in_limits identity = between 1 4294967295 identity
+identity_in_limits identity = within 1 4294967295 identity
 
 -- no other mobile has the identity
 abbrev pub unused : ℕ → List Subscriber → Bool

@@ -1,5 +1,6 @@
 // What a call answers.
 ghost use Rattle.std.specs.Prelude.{◌≡◌};
+ghost use Rattle.call.specs.declared.answer.Outcome.TheVariants.{Refused};
 
 use mobile::{Attempt, Rejection};
 
@@ -69,5 +70,14 @@ impl Answer {
             kept: 0,
             lost: 0,
         }
+    }
+}
+
+// Of a call that is refused, which says nothing.
+impl From<Refusal> for Answer {
+    ghost from_gives = { λ refusal answer. answer ≡ record { outcome = Refused refusal; kept = 0; lost = 0 } };
+
+    fn from(refusal: Refusal) -> Answer {
+        Answer::silent(Outcome::Refused(refusal))
     }
 }

@@ -15,7 +15,7 @@ pub struct Subscriber {
     pub identity: u64,
     // the station in whose cell it is
     pub station: u64,
-    // the sum of 2^code over the ranks that it may ask for
+    // the sum of 2^code over the ranks that it may ask for, the number by which a mobile is entered
     pub allowed: u64,
 }
 

@@ -15,9 +15,9 @@ pub struct GroupCall {
     stations: Stations,
     // how many grants the book can hold
     places: usize,
-    // the number of the last grant, 0 before the first; no Option, since the next grant has this and one
+    // the number of the last grant, 0 before the first; no Option, since the next grant's number is this plus one
     last: u32,
-    // the time of the last accepted call, 0 before the first
+    // the time of the last accepted call, 0 before the first; no Option, since no call is before 0
     time: Time,
     ghost least_mobiles: { 1 ≤ mobiles },
     ghost most_mobiles: { mobiles ≤ 200 },

@@ -80,7 +80,8 @@ fn is_there(number: u64, count: u64) -> bool
     1 <= number && number <= count
 }
 
-// The time of the call, where it is within its limits and not before that of the last accepted call. Of the tables it reads that time alone.
+// The time of the call, where it is within its limits and not before that of the last accepted call.
+// `time_good` reads only the time of the tables that it is given, so the clauses give it no rows.
 fn admitted_time(group: &GroupCall, call: &Call) -> Option<Time>
     ensures { MatchOption result (time_good (tables_of group.now [] [] []) call.now ≡ false) (λ time. (time.ms ≡ time_of call.now) × (time_good (tables_of group.now [] [] []) call.now ≡ true)) }
 {

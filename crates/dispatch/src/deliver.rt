@@ -13,7 +13,8 @@ pub(crate) struct Delivery {
     pub(crate) lost: u32,
 }
 
-// Says each message in order, on the air or on the wire.
+// Says each message in order, on the air or on the wire. A loop with two counts: a carrier is told each message in turn, and its answer is
+// counted as it comes.
 pub(crate) fn deliver<A: Carrier, W: Carrier>(
     outbox: &Outbox,
     air: &mut A,

@@ -6,12 +6,13 @@ use super::deliver::deliver;
 use super::listen::listen;
 use super::steps::step;
 use super::tables::LentTables;
-use call::{Answer, Call, GroupCall, Outcome};
+use call::{Answer, Call, GroupCall};
 use carriers::Carrier;
 use schemes::RankScheme;
 
-// The five borrows are no struct: each part below takes only some of them, and reads the tables while it writes a carrier.
 // Refused by the first check that fails, with nothing changed; else what it heard decides the step, and what is said is counted as kept or lost.
+// The five borrows are no struct here, since in this crate `make` alone takes all five (a host holds them as the engine's `OngoingCall`): the
+// checks and the steps take the record and the tables, some steps the scheme too, listening the tables and the carriers, saying the carriers.
 pub fn make<S: RankScheme, A: Carrier, W: Carrier>(
     group: &mut GroupCall,
     tables: &mut LentTables<'_>,
@@ -24,7 +25,7 @@ pub fn make<S: RankScheme, A: Carrier, W: Carrier>(
 {
     let time = match admit(group, tables, S::rank_count(), call) {
         Ok(time) => time,
-        Err(refusal) => return Answer::silent(Outcome::Refused(refusal)),
+        Err(refusal) => return Answer::from(refusal),
     };
     let heard = listen(tables, call, air, wire);
     let step = step(group, tables, scheme, time, call, heard);

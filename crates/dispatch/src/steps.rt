@@ -5,8 +5,8 @@ ghost use Rattle.call.specs.Effects.{effect_alone, effect_heard, effect};
 ghost use Rattle.call.specs.Records.{frame_of};
 ghost use Rattle.call.specs.World.{time_of};
 ghost use Rattle.dispatch.specs.Checks.{Admitted};
-ghost use Rattle.dispatch.specs.Lent.{SameTables, lent};
-ghost use Rattle.dispatch.specs.Steps.{Stepped};
+ghost use Rattle.dispatch.specs.Lent.{lent};
+ghost use Rattle.dispatch.specs.Steps.{SteppedTo};
 
 use super::step::Step;
 use super::tables::LentTables;
@@ -31,9 +31,7 @@ pub(crate) fn step<S: RankScheme>(
 ) -> Step
     requires admitted { Admitted group.old S.RankScheme.count tables.old call.now }
     requires time { time.ms ≡ time_of call.now }
-    ensures frame { frame_of group.new ≡ frame_of group.old }
-    ensures stepped { Stepped (effect (S.RankScheme.above scheme.now) (frame_of group.old) call.now (lent group.old tables.old) heard) (lent group.new tables.new) result }
-    ensures same { SameTables tables.old tables.new }
+    ensures { SteppedTo (effect (S.RankScheme.above scheme.now) (frame_of group.old) call.now (lent group.old tables.old) heard) group.old tables.old group.new tables.new result }
 {
     match heard {
         None => step_alone(group, tables, scheme, time, call),
@@ -51,9 +49,7 @@ fn step_alone<S: RankScheme>(
 ) -> Step
     requires admitted { Admitted group.old S.RankScheme.count tables.old call.now }
     requires time { time.ms ≡ time_of call.now }
-    ensures frame { frame_of group.new ≡ frame_of group.old }
-    ensures stepped { Stepped (effect_alone (S.RankScheme.above scheme.now) (frame_of group.old) call.now (lent group.old tables.old)) (lent group.new tables.new) result }
-    ensures same { SameTables tables.old tables.new }
+    ensures { SteppedTo (effect_alone (S.RankScheme.above scheme.now) (frame_of group.old) call.now (lent group.old tables.old)) group.old tables.old group.new tables.new result }
 {
     match *call {
         Call::Ask {
@@ -85,9 +81,7 @@ fn step_hearing<S: RankScheme>(
 ) -> Step
     requires admitted { Admitted group.old S.RankScheme.count tables.old call.now }
     requires time { time.ms ≡ time_of call.now }
-    ensures frame { frame_of group.new ≡ frame_of group.old }
-    ensures stepped { Stepped (effect_heard (S.RankScheme.above scheme.now) (frame_of group.old) call.now (lent group.old tables.old) message) (lent group.new tables.new) result }
-    ensures same { SameTables tables.old tables.new }
+    ensures { SteppedTo (effect_heard (S.RankScheme.above scheme.now) (frame_of group.old) call.now (lent group.old tables.old) message) group.old tables.old group.new tables.new result }
 {
     match *call {
         Call::MobileHears { mobile, .. } => {

@@ -4,7 +4,8 @@ use ether::Ether;
 use messages::{Message, cell_address};
 use std::test::Fail;
 
-// The grant of the next message to the cell of station 1 for a listener, or a number that no message has here.
+// The grant of the next message to the cell of station 1 for a listener; 1000, which no grant has here, where there is none, so that one
+// comparison serves both.
 fn next_grant(air: &mut Ether, listener: u16) -> u32 {
     air.hear(cell_address(1), listener)
         .map_or(1000, |message| message.grant)

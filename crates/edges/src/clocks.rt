@@ -2,7 +2,8 @@
 use station::{Clock, ClockRow};
 use timing::{Period, Time, Timer};
 
-// The due time after a clock that started at 1000 with a period of 200 was read; 0 where a time is not in its limits.
+// The due time after a clock that started at 1000 with a period of 200 was read; 0, which is due nowhere here, where a time is not in its
+// limits.
 fn due_after_read(at: u64) -> u64 {
     clock_read(at).map_or(0, |clock| clock.due())
 }

@@ -2,8 +2,7 @@
 use messages::Message;
 use schemes::Priorities;
 use station::{
-    ClockRow, Phase, Station, StationMoment, StationOutcome, StationRefusal, StationStep,
-    StationTimers,
+    ClockRow, Station, StationMoment, StationOutcome, StationRefusal, StationStep, StationTimers,
 };
 use timing::{Period, Time, Timer};
 
@@ -73,12 +72,7 @@ fn last_answer(events: &[Event]) -> Option<Answer> {
     let link = Timer::new(500)?;
     let period = Period::new(200)?;
     let timers = StationTimers { link, period };
-    let mut station = Station {
-        phase: Phase::Shut,
-        top: 0,
-        pending: None,
-        clock: ClockRow { start: 0, due: 0 },
-    };
+    let mut station = Station::default();
     let mut answer = Answer::Idle;
     for event in events {
         let at = StationMoment {

@@ -5,17 +5,13 @@ use script::Script;
 use std::test::Fail;
 
 // How many of so many RELEASE COMMANDs to station 1 a carrier keeps.
-fn kept_of<C: Carrier>(carrier: &mut C, count: u32) -> u32 {
-    let mut stored: u32 = 0;
-    for grant in 0..count {
-        if carrier.say(Message::release_command(1, grant)) {
-            stored = stored.saturating_add(1);
-        }
-    }
-    stored
+fn kept_of<C: Carrier>(carrier: &mut C, count: u32) -> usize {
+    (0..count)
+        .filter(|grant| carrier.say(Message::release_command(1, *grant)))
+        .count()
 }
 
-// The grant of the next message to station 1, or a number that no message has here.
+// The grant of the next message to station 1; 1000, which no grant has here, where there is none, so that one comparison serves both.
 fn next_grant<C: Carrier>(carrier: &mut C) -> u32 {
     carrier.hear(1, 1).map_or(1000, |message| message.grant)
 }

@@ -19,7 +19,7 @@ pub(crate) fn enter_mobiles(rows: &mut [Mobile], subscribers: &[Subscriber])
     }
 }
 
-// A mobile that listens, and knows nothing of the uplink.
+// A mobile that listens, and knows nothing of the uplink. No From, since it needs numbers that the opening has judged.
 fn entered(subscriber: &Subscriber) -> Mobile
     requires { Writable subscriber.now }
     ensures { result ≡ entered_row subscriber.now }

@@ -51,7 +51,8 @@ pub(crate) fn opening_record<A: Carrier, W: Carrier>(
     Ok(group)
 }
 
-// The checks of an opening but for the carriers: the first that fails, if one does.
+// The checks of an opening but for the carriers, by the lengths of the tables, so that a caller who has none yet can ask: the first that fails,
+// if one does.
 pub fn check_opening(
     setup: &CallSetup<'_>,
     rows: usize,
@@ -75,6 +76,7 @@ fn first_record(
 {
     let mobiles = setup.subscribers.len();
     let stations = Stations::new(stations as u64).ok_or(Refusal::Table)?;
+    // before the identities and the settings, without which there is no record that could check them
     if rows != mobiles || mobiles < 1 || mobiles > 200 || places < 1 || places > 4096 {
         return Err(Refusal::Table);
     }
@@ -82,7 +84,7 @@ fn first_record(
         return Err(Refusal::Identity);
     }
     let settings = Settings::try_from(setup.settings)?;
-    GroupCall::new(settings, mobiles, stations, places).ok_or(Refusal::Table)
+    Ok(GroupCall::new(settings, mobiles, stations, places).unwrap())
 }
 
 // Every identity in its limits and different from the others, every mobile in the cell of a station of the call.

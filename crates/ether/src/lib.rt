@@ -2,6 +2,7 @@
 #![tactic(auto)]
 
 mod ether;
+mod listener;
 mod slot;
 
 pub use ether::Ether;

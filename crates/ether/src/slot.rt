@@ -1,7 +1,8 @@
 // A message that an Ether keeps, with who has heard it.
-ghost use Rattle.std.specs.Prelude.{◌≡◌, ◌≤◌};
+ghost use Rattle.std.specs.Prelude.{◌≡◌};
 ghost use Rattle.ether.specs.Ethers.{fresh, unheard, marked};
 
+use super::listener::Listener;
 use messages::Message;
 
 #[derive(Clone, Copy)]
@@ -23,18 +24,16 @@ impl Slot {
     }
 
     // Whether it has the address, and the listener has not heard it.
-    pub(crate) fn is_unheard(&self, address: u16, listener: u16) -> bool
-        requires { listener ≤ 208 }
-        ensures { result ≡ unheard address listener self.now }
+    pub(crate) fn is_unheard(&self, address: u16, listener: Listener) -> bool
+        ensures { result ≡ unheard address listener.number self.now }
     {
-        self.message.address == address && !self.heard[listener as usize]
+        self.message.address == address && !self.heard[listener.number as usize]
     }
 
     // The listener has heard it.
-    pub(crate) fn mark(&mut self, listener: u16)
-        requires { listener ≤ 208 }
-        ensures { self.new ≡ marked listener self.old }
+    pub(crate) fn mark(&mut self, listener: Listener)
+        ensures { self.new ≡ marked listener.number self.old }
     {
-        self.heard[listener as usize] = true;
+        self.heard[listener.number as usize] = true;
     }
 }

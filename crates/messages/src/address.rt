@@ -1,5 +1,5 @@
 // Addresses and listeners by name. A message goes to the anchor, to a station or to a cell; who hears is named by a listener. They are
-// numbers, not enums, since a carrier is asked at any number and answers that none is heard at one that nobody has.
+// numbers, not enums, since a carrier may be asked at any number, and at one that is no address it hears nothing.
 ghost use Rattle.std.specs.Prelude.{◌≡◌};
 ghost use Rattle.messages.specs.Addresses.{anchor_at, station_at, mobile_as, cell_at};
 

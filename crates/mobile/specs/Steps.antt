@@ -9,13 +9,13 @@ use Rattle.messages.specs.declared.message.Kind.TheVariants.{Downlink, Uplink as
 use Rattle.messages.specs.declared.message.Message.{Message}
 use Rattle.messages.specs.declared.outbox.Post.{Post}
 use Rattle.messages.specs.declared.outbox.Post.TheVariants.{Air}
+use Rattle.messages.specs.declared.step.Step.{Step}
 use Rattle.mobile.specs.Rows.{open_to}
 use Rattle.mobile.specs.declared.row.Attempt.{Attempt as Try}
 use Rattle.mobile.specs.declared.row.Attempt.TheVariants.{First, Second, Third}
 use Rattle.mobile.specs.declared.row.Mobile.{Mobile}
 use Rattle.mobile.specs.declared.row.MobileOutcome.{MobileOutcome}
 use Rattle.mobile.specs.declared.row.MobileOutcome.TheVariants as outcomes
-use Rattle.mobile.specs.declared.row.MobileStep.{MobileStep}
 use Rattle.mobile.specs.declared.row.MobileTimers.{MobileTimers}
 use Rattle.mobile.specs.declared.row.Rejection.{Rejection}
 use Rattle.mobile.specs.declared.row.Rejection.TheVariants.{WaitExpired, UplinkBusy, NoAnswer, GrantedToOther, LinkFailed}
@@ -29,6 +29,9 @@ pub record MobileActed : Type 0 where
   pub row : Mobile
   pub said : List Post
   pub outcome : MobileOutcome
+
+abbrev pub MobileStep : Type 0
+MobileStep = Step MobileOutcome
 
 -- the code's step, and the row that it leaves, are those of the definition
 pub record MobileDid (acted : MobileActed) (after : Mobile) (step : MobileStep) : Type 0 where

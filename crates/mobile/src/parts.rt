@@ -7,7 +7,7 @@ ghost use Rattle.mobile.specs.Steps.{MobileDid, rejected, attempts};
 use super::row::{
     Attempt, Mobile, MobileMoment, MobileOutcome, MobileStep, Rejection, State, TalkRequest, Uplink,
 };
-use messages::{Message, Outbox, Post};
+use messages::{Message, Outbox, Post, Step};
 use schemes::RankScheme;
 use timing::Time;
 
@@ -15,7 +15,7 @@ use timing::Time;
 pub(super) fn quiet(outcome: MobileOutcome) -> MobileStep
     ensures { (result.outcome ≡ outcome) × (posts result.outbox ≡ []) }
 {
-    MobileStep {
+    Step {
         outcome,
         outbox: Outbox::new(),
     }
@@ -25,7 +25,7 @@ pub(super) fn quiet(outcome: MobileOutcome) -> MobileStep
 pub(super) fn saying(outcome: MobileOutcome, post: Post) -> MobileStep
     ensures { (result.outcome ≡ outcome) × (posts result.outbox ≡ post ∷ []) }
 {
-    MobileStep {
+    Step {
         outcome,
         outbox: Outbox::one(post),
     }

@@ -2,7 +2,7 @@
 ghost use Rattle.std.specs.Prelude.{◌≡◌};
 ghost use Rattle.mobile.specs.Rows.{attempt_number, rejection_cause, may_ask};
 
-use messages::Outbox;
+use messages::Step;
 use timing::{Time, Timer};
 
 #[derive(Clone, Copy, Default)]
@@ -10,7 +10,7 @@ pub struct Mobile {
     pub identity: u32,
     // the station in whose cell it is
     pub station: u8,
-    // the sum of 2^code over the ranks that it may ask for
+    // the sum of 2^code over the ranks that it may ask for, the number by which a mobile is entered
     pub allowed: u64,
     pub state: State,
     pub uplink: Uplink,
@@ -104,18 +104,14 @@ pub struct MobileMoment {
     pub timers: MobileTimers,
 }
 
-// What its user asks for: a talk with this reference and rank.
+// What its user asks for: a talk with this reference and rank. A state keeps the two apart, since the definitions of the steps name them so.
 #[derive(Clone, Copy)]
 pub struct TalkRequest {
     pub reference: u16,
     pub rank: u8,
 }
 
-#[derive(Clone, Copy)]
-pub struct MobileStep {
-    pub outcome: MobileOutcome,
-    pub outbox: Outbox,
-}
+pub type MobileStep = Step<MobileOutcome>;
 
 // Why a step that its user asks for is not taken.
 #[derive(Clone, Copy, PartialEq, Eq, Debug)]

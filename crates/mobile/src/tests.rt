@@ -1,4 +1,5 @@
-// The edges of a mobile's steps, under the talker priorities. Outcomes are told by their numbers, and 0 or 255 stand for none.
+// The edges of a mobile's steps, under the talker priorities. Outcomes are told by the protocol's own numbers of causes,
+// attempts and grants, and 0 or 255, which no cause, attempt or grant here is, stand for none.
 use super::row::{
     Attempt, Mobile, MobileMoment, MobileOutcome, MobileStep, MobileTimers, State, TalkRequest,
     Uplink,

@@ -71,8 +71,5 @@ pub(crate) fn skip(bytes: &[u8], len: usize) -> &[u8]
 pub(crate) fn rest(bytes: &[u8]) -> &[u8]
     ensures { result.now ≡ drop 1 bytes.now }
 {
-    match bytes.split_first() {
-        Some((_, rest)) => rest,
-        None => bytes,
-    }
+    bytes.split_first().map_or(bytes, |(_, rest)| rest)
 }

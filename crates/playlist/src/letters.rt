@@ -1,4 +1,5 @@
-// The letters of the kinds, and the numbers that each kind asks for. A letter that is none gives no kind, with no error that a TryFrom would need.
+// The letters of the kinds, and the numbers that each kind asks for. A byte that is no such letter gives None, and the
+// caller names the fault, so there is no TryFrom with an error of its own.
 ghost use Rattle.std.specs.Prelude.{◌≡◌};
 ghost use Rattle.playlist.specs.Forms.{call_letter, letter, number_count, limit};
 

@@ -11,6 +11,7 @@ mod line;
 mod line_fault;
 mod numbers;
 mod order;
+mod parsed;
 mod place;
 mod read_error;
 mod reader;

@@ -10,19 +10,17 @@ use super::bytes::{at_line_end, digits_front, first_line, rest, skip, stops, tab
 use super::kind::Kind;
 use super::letters::{limit, number_count};
 use super::line_fault::LineFault;
+use super::parsed::Parsed;
 use arrayvec::ArrayVec;
 
-#[derive(Drop)]
-pub(crate) struct Numbers<'a> {
-    pub values: ArrayVec<u64, 5>,
-    // from the byte that ends the line
-    pub rest: &'a [u8],
-}
-
-// The numbers in order, as many as the kind asks for, or the fault. `line` is what follows the letter.
-pub(crate) fn read_numbers<'a>(kind: Kind, line: &'a [u8]) -> Result<Numbers<'a>, LineFault>
+// The numbers in order, as many as the kind asks for, and the text from the byte that ends the line on; or the fault. `line` is what
+// follows the letter.
+pub(crate) fn read_numbers<'a>(
+    kind: Kind,
+    line: &'a [u8],
+) -> Result<Parsed<'a, ArrayVec<u64, 5>>, LineFault>
     requires { first_field line.now ≡ [] }
-    ensures { MatchResult result (λ ns. (counted kind (fields_after (leading_line line.now)) ≡ Ok ns.values.items) × (length ns.values.items ≡ number_count kind) × (ns.rest.now ≡ after_line line.now)) (λ fault. counted kind (fields_after (leading_line line.now)) ≡ Err (field_of fault)) }
+    ensures { MatchResult result (λ ns. (counted kind (fields_after (leading_line line.now)) ≡ Ok ns.value.items) × (length ns.value.items ≡ number_count kind) × (ns.rest.now ≡ after_line line.now)) (λ fault. counted kind (fields_after (leading_line line.now)) ≡ Err (field_of fault)) }
 {
     let mut values = ArrayVec::new();
     let mut left = line;
@@ -30,17 +28,17 @@ pub(crate) fn read_numbers<'a>(kind: Kind, line: &'a [u8]) -> Result<Numbers<'a>
         if at_line_end(left) {
             return Err(LineFault::Form);
         }
-        // no ok_or_else: its closure would be as long, and the fault is judged over the whole line
-        let Some(number) = read_number(kind, field, left) else {
-            return Err(bad_number(kind, field, line));
-        };
+        let number = read_number(kind, field, left).ok_or_else(|| bad_number(kind, field, line))?;
         values.push(number.value);
         left = number.rest;
     }
     if !at_line_end(left) {
         return Err(LineFault::Form);
     }
-    Ok(Numbers { values, rest: left })
+    Ok(Parsed {
+        value: values,
+        rest: left,
+    })
 }
 
 // A bad number in the field, or the form where the count of fields is wrong.
@@ -55,32 +53,22 @@ fn bad_number(kind: Kind, field: u8, line: &[u8]) -> LineFault
     }
 }
 
-#[derive(Clone, Copy)]
-struct Number<'a> {
-    value: u64,
-    // what follows the field
-    rest: &'a [u8],
-}
-
-// The number after a tab, if there is one within the field's limit.
-fn read_number<'a>(kind: Kind, field: u8, left: &'a [u8]) -> Option<Number<'a>>
+// The number after a tab, if there is one within the field's limit, and what follows the field.
+fn read_number<'a>(kind: Kind, field: u8, left: &'a [u8]) -> Option<Parsed<'a, u64>>
     ensures { MatchOption result (number_in kind field (first_field (drop 1 left.now)) ≡ None) (λ n. (number_in kind field (first_field (drop 1 left.now)) ≡ Some n.value) × (n.rest.now ≡ drop (length (first_field (drop 1 left.now))) (drop 1 left.now))) }
 {
     cut_number(rest(left)).filter(|number| number.value <= limit(kind, field))
 }
 
-// The number of the first field, if it is one.
-fn cut_number<'a>(bytes: &'a [u8]) -> Option<Number<'a>>
+// The number of the first field, if it is one, and what follows the field.
+fn cut_number<'a>(bytes: &'a [u8]) -> Option<Parsed<'a, u64>>
     ensures { MatchOption result (number (first_field bytes.now) ≡ None) (λ n. (number (first_field bytes.now) ≡ Some n.value) × (n.rest.now ≡ drop (length (first_field bytes.now)) bytes.now)) }
 {
     let digits = digits_front(bytes);
-    if !stops(bytes, digits.len()) {
+    if !stops(bytes, digits.len()) || !has_shape(digits) {
         return None;
     }
-    if !has_shape(digits) {
-        return None;
-    }
-    Some(Number {
+    Some(Parsed {
         value: value_of(digits),
         rest: skip(bytes, digits.len()),
     })

@@ -9,7 +9,7 @@ mod steps;
 pub struct Reader<'a> {
     // the text from the next line on
     rest: &'a [u8],
-    // the next line's number
+    // the next line's number, or 0, the line of a text that is too long, as it is printed
     line: u32,
     // where the next line stands
     place: Place,

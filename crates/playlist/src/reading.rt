@@ -13,6 +13,7 @@ use super::line::Line;
 use super::line_fault::LineFault;
 use super::numbers::read_numbers;
 use super::order::place_after;
+use super::parsed::Parsed;
 use super::place::Place;
 use super::standing::Standing;
 use call::{Call, SettingNumbers, Subscriber};
@@ -33,7 +34,7 @@ pub(crate) fn read_line<'a>(place: Place, text: &'a [u8]) -> Result<Standing<'a>
     let place = place_after(place, kind).ok_or(LineFault::Form)?;
     let read = read_kind(kind, text)?;
     Ok(Standing {
-        line: read.line,
+        line: read.value,
         place,
         rest: read.rest,
     })
@@ -65,21 +66,14 @@ fn kind_of(text: &[u8]) -> Option<Kind>
     kind_by(text[0])
 }
 
-#[derive(Clone, Copy)]
-struct Lettered<'a> {
-    line: Line<'a>,
-    // the text from the next line on
-    rest: &'a [u8],
-}
-
-// A line of the kind.
-fn read_kind<'a>(kind: Kind, text: &'a [u8]) -> Result<Lettered<'a>, LineFault>
+// A line of the kind, and the text from the next line on.
+fn read_kind<'a>(kind: Kind, text: &'a [u8]) -> Result<Parsed<'a, Line<'a>>, LineFault>
     requires { (Some kind ≡ kind_named (slice_index_or (fields (leading_line text.now)) 0 [])) × (first_field (drop 1 text.now) ≡ []) }
-    ensures { MatchResult result (λ read. (entry_in kind (drop 1 (fields (leading_line text.now))) ≡ Ok (meant read.line)) × (read.rest.now ≡ drop 1 (after_line text.now))) (λ fault. entry_in kind (drop 1 (fields (leading_line text.now))) ≡ Err (field_of fault)) }
+    ensures { MatchResult result (λ read. (entry_in kind (drop 1 (fields (leading_line text.now))) ≡ Ok (meant read.value)) × (read.rest.now ≡ drop 1 (after_line text.now))) (λ fault. entry_in kind (drop 1 (fields (leading_line text.now))) ≡ Err (field_of fault)) }
 {
     let numbers = read_numbers(kind, rest(text))?;
-    Ok(Lettered {
-        line: line_of(kind, &numbers.values),
+    Ok(Parsed {
+        value: line_of(kind, &numbers.value),
         rest: rest(numbers.rest),
     })
 }
@@ -113,6 +107,7 @@ fn line_of<'a>(kind: Kind, values: &[u64]) -> Line<'a>
     }
 }
 
+// No From, as at `line_of`: the numbers are as many as the kind asks for, and within its limits.
 fn call_of(kind: CallKind, values: &[u64]) -> Call
     requires count { length values.now ≡ call_numbers kind }
     requires limits { InLimits (Kind.Call kind) values.now }

@@ -7,7 +7,7 @@ ghost use Rattle.playlist.specs.Forms.{Entry};
 ghost use Rattle.playlist.specs.Entries.{reading};
 ghost use Rattle.printer.specs.Playlists.{printed, printed_entries};
 
-use call::{Answer, CallSetup, Outcome};
+use call::{Answer, CallSetup};
 use playlist::{Playlist, ReadError, Reader, read};
 use printing::put_rows;
 use refused::{put_fault, put_refused};
@@ -23,6 +23,7 @@ pub fn print(heap: Global, text: &[u8]) -> Result<Vec<u8>, AllocError>
     ensures { IfOk result (λ out. out.items ≡ printed text.now) }
 {
     let mut out = Vec::with_capacity(heap, 4096)?;
+    // want of memory is the only error that a print has, so it is taken out of the error of reading, and below out of that of playing
     match read(heap, text) {
         Ok(playlist) => put_played(heap, &mut out, text, &playlist)?,
         Err(ReadError::Fault(fault)) => put_fault(&mut out, &fault)?,
@@ -52,9 +53,7 @@ fn put_played(
     };
     match play_session(heap, &plan) {
         Ok(answers) => put_rows(out, reader, &answers),
-        Err(SessionError::Refused(refusal)) => {
-            put_refused(out, reader, &Answer::silent(Outcome::Refused(refusal)))
-        }
+        Err(SessionError::Refused(refusal)) => put_refused(out, reader, &Answer::from(refusal)),
         Err(SessionError::Memory(failed)) => Err(failed),
     }
 }

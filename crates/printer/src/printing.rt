@@ -17,7 +17,7 @@ pub(crate) fn put_rows(
 ) -> Result<(), AllocError>
     ensures { OnOk result (Printed out.old.items out.new.items answers.now 0 (reading_on (stand_of reader.entry))) }
 {
-    // the calls printed so far, which are some of the lines
+    // how many calls have been printed so far; not every line is a call
     let mut next = 0;
     while let Ok(Some(line)) = reader.next() {
         next = put_line(out, line, answers, next)?;

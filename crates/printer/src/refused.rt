@@ -9,7 +9,8 @@ use call::Answer;
 use playlist::{Fault, Line, Reader};
 use std::alloc::AllocError;
 
-// The notes before the first call, and then the refusal. A walk of its own, since it ends at a call and counts none. The text was read before, so it has no fault.
+// The notes before the first call, and then the refusal. It stops at the first call, while `put_rows` goes to the end of the text, so these
+// are two loops. The text was read before, so it has no fault.
 pub(crate) fn put_refused(
     out: &mut Vec<u8>,
     mut reader: Reader<'_>,

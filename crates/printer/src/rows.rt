@@ -36,7 +36,7 @@ pub(crate) fn put_tabbed(out: &mut Vec<u8>, number: u64) -> Result<(), AllocErro
     put_number(out, number)
 }
 
-// In decimal, digit by digit: rows are written without the formatter.
+// In decimal. By plain digits, since a print may have thousands of rows, and the formatter is kept out of its inner loop.
 pub(crate) fn put_number(out: &mut Vec<u8>, number: u64) -> Result<(), AllocError>
     ensures { OnOk result (out.new.items ≡ out.old.items ++ decimal number) }
 {

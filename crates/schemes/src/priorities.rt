@@ -1,4 +1,5 @@
-// Talker priorities: 0 normal, 1 privileged, 2 emergency. The greater is above.
+// Talker priorities: 0 normal, 1 privileged, 2 emergency. The greater is above. They are codes, as the ranks of any scheme, since messages carry
+// a code whatever the scheme is.
 ghost use Rattle.schemes.specs.Priorities.{greater};
 ghost use Rattle.std.proofs.Common.{rules};
 

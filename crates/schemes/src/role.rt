@@ -3,6 +3,6 @@
 pub struct Role {
     // 0 to 7 in a role book
     pub level: u64,
-    // 0 to 3 in a role book; 0 stands for all districts
+    // 0 to 3 in a role book; 0 stands for all districts, the number by which a role is entered
     pub district: u64,
 }

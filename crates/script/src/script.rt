@@ -14,7 +14,7 @@ use std::alloc::Global;
 pub struct Script {
     said: Vec<Message>,
     picks: Vec<usize>,
-    // how many were taken; no iterator, since the steps say by it how far the script is
+    // how many were taken; a number and no iterator, since the carrier's steps are stated by it
     next: usize,
 }
 

@@ -5,8 +5,7 @@ use native.Mathlib.Bridge.{le_prop}
 use Rattle.std.proofs.lemmas.Bool.{and_parts, both_ways}
 use Rattle.messages.specs.declared.message.Message.{Message}
 use Rattle.timing.specs.Limits.{period_in_limits, timer_in_limits}
-use Rattle.timing.specs.Types.{Period}
-use Rattle.timing.specs.Types.{Timer}
+use Rattle.timing.specs.Types.{Period, Timer}
 use Rattle.carriers.specs.Meaning.{empty}
 use Rattle.carriers.specs.contracts.queue.lane.QueueCarrier.TheImpl as by_queue
 use Rattle.carriers.specs.declared.queue.Queue.{Queue}

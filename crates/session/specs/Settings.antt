@@ -4,8 +4,7 @@ use Rattle.std.specs.Prelude.{◌≡◌, ℕ, Bool, true, false, [], nat_le, ref
 use Rattle.std.proofs.Common.{lit≤}
 use Rattle.std.proofs.lemmas.Bool.{and_parts, leb-true}
 use Rattle.timing.specs.Limits.{period_in_limits, timer_in_limits}
-use Rattle.timing.specs.Types.{Period}
-use Rattle.timing.specs.Types.{Timer}
+use Rattle.timing.specs.Types.{Period, Timer}
 use Rattle.call.specs.Openings.{Given, first_frame, first_tables}
 use Rattle.call.specs.World.{Frame}
 use Rattle.call.specs.declared.opening.SettingNumbers.{SettingNumbers}

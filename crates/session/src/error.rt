@@ -7,7 +7,7 @@ use std::alloc::AllocError;
 
 #[derive(Clone, Copy, Debug)]
 pub enum SessionError {
-    // by this check of the opening
+    // by a check of the opening, for too few places for answers, or by the roles
     Refused(Refusal),
     // for want of memory
     Memory(AllocError),

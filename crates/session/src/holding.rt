@@ -19,7 +19,8 @@ use schemes::RankScheme;
 use std::alloc::Global;
 
 // Opens a call on new carriers and plays the list. The answers are those of the definition, which is a function of what is given and the
-// calls; the guarantee holds of them. It fails by the refusals of the opening and for want of memory.
+// calls; the guarantee holds of them. It is refused by the opening's checks, and then where there are fewer
+// places for answers than calls. It fails besides only for want of memory.
 pub fn hold<S: RankScheme>(
     heap: Global,
     setup: &CallSetup<'_>,

@@ -1,6 +1,7 @@
 // A whole session on tables of its own.
-ghost use Rattle.std.specs.Prelude.{◌≡◌, true, false, length, IfOk, Some, None, MatchOption, MatchResult};
+ghost use Rattle.std.specs.Prelude.{◌≡◌, true, false, length, IfOk, Some, None, MatchResult};
 ghost use Rattle.call.specs.Openings.{opening_check};
+ghost use Rattle.call.specs.declared.answer.Refusal.TheVariants.{Setting};
 ghost use Rattle.session.specs.Errors.{IfRefused};
 ghost use Rattle.session.specs.Models.{all_answers};
 ghost use Rattle.session.specs.Sessions.{Kept, above_for, given_for, no_roles, ranks_for, roles_good, session_answers, session_refusal};
@@ -48,17 +49,17 @@ fn play_ranked(heap: Global, plan: &SessionPlan<'_>) -> Result<Vec<Answer>, Sess
     if plan.roles.is_empty() {
         return play(heap, plan, &Priorities);
     }
-    let book = role_book(plan.roles).ok_or(Refusal::Setting)?;
+    let book = role_book(plan.roles)?;
     play(heap, plan, &book)
 }
 
-// The book of sixteen roles in their limits.
-fn role_book(roles: &[Role]) -> Option<RoleBook>
+// The book of sixteen roles in their limits; other roles are refused.
+fn role_book(roles: &[Role]) -> Result<RoleBook, Refusal>
     requires { no_roles roles.now ≡ false }
-    ensures { MatchOption result (roles_good roles.now ≡ false) (λ book. (roles_good roles.now ≡ true) × (book.roles ≡ roles.now)) }
+    ensures { MatchResult result (λ book. (roles_good roles.now ≡ true) × (book.roles ≡ roles.now)) (λ refusal. (refusal ≡ Setting) × (roles_good roles.now ≡ false)) }
 {
-    let roles = <[Role; 16]>::try_from(roles).ok()?;
-    RoleBook::new(roles).ok()
+    let roles = <[Role; 16]>::try_from(roles).map_err(|_| Refusal::Setting)?;
+    RoleBook::new(roles).map_err(|_| Refusal::Setting)
 }
 
 // On new tables, once the opening's checks have passed.

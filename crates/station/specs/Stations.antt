@@ -12,6 +12,7 @@ use Rattle.messages.specs.declared.message.StationKind.TheVariants.{Acknowledge,
 use Rattle.messages.specs.declared.message.UplinkKind.TheVariants.{Access, TalkerIndication, End}
 use Rattle.messages.specs.declared.outbox.Post.{Post}
 use Rattle.messages.specs.declared.outbox.Post.TheVariants.{Air, Wire}
+use Rattle.messages.specs.declared.step.Step.{Step}
 use Rattle.messages.specs.Posts.{posts}
 use Rattle.station.specs.Clocks.{sound, due_after_reading}
 use Rattle.station.specs.declared.clock.ClockRow.{ClockRow}
@@ -23,13 +24,15 @@ use Rattle.station.specs.declared.row.StationOutcome.{StationOutcome}
 use Rattle.station.specs.declared.row.StationOutcome.TheVariants.{Idle, Ignored, Acted}
 use Rattle.station.specs.declared.row.StationRefusal.{StationRefusal}
 use Rattle.station.specs.declared.row.StationRefusal.TheVariants.{BrokenClock, NotHeld}
-use Rattle.station.specs.declared.row.StationStep.{StationStep}
 
 -- what a step leaves, says and answers
 pub record StationActed : Type 0 where
   pub row : Station
   pub said : List Post
   pub outcome : StationOutcome
+
+abbrev pub StationStep : Type 0
+StationStep = Step StationOutcome
 
 -- a step took what a definition says: the row after it, what it says in order, its outcome
 pub record Took (acted : StationActed) (after : Station) (step : StationStep) : Type 0 where

@@ -23,7 +23,7 @@ impl Station {
         Ok(self.answer(scheme, message, at))
     }
 
-    // The radio of the talker that is held here is lost.
+    // The radio of the talker that is held here is lost. No time is needed, so this takes no moment.
     pub fn lose_radio(
         &mut self,
         number: u8,

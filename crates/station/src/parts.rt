@@ -7,14 +7,14 @@ ghost use Rattle.station.specs.declared.row.StationRefusal.TheVariants.{BrokenCl
 
 use super::clock::Clock;
 use super::row::{Phase, Station, StationOutcome, StationRefusal, StationStep};
-use messages::{Message, Outbox, Post};
+use messages::{Message, Outbox, Post, Step};
 use timing::Period;
 
 // A step that met no rule.
 pub(crate) fn ignored() -> StationStep
     ensures { (posts result.outbox ≡ []) × (result.outcome ≡ Ignored) }
 {
-    StationStep {
+    Step {
         outcome: StationOutcome::Ignored,
         outbox: Outbox::new(),
     }
@@ -24,7 +24,7 @@ pub(crate) fn ignored() -> StationStep
 pub(crate) fn acted(outbox: Outbox) -> StationStep
     ensures { (result.outbox ≡ outbox) × (result.outcome ≡ Acted) }
 {
-    StationStep {
+    Step {
         outcome: StationOutcome::Acted,
         outbox,
     }

@@ -1,6 +1,6 @@
 // A station's row, and what its steps give.
 use super::clock::ClockRow;
-use messages::{Cause, Outbox};
+use messages::{Cause, Step};
 use timing::{Period, Time, Timer};
 
 // Free, Seized, Granted, Held and Closing concern the grant `top`; the last four have that grant's rank.
@@ -31,7 +31,7 @@ pub struct Pending {
 #[derive(Clone, Copy, Default)]
 pub struct Station {
     pub phase: Phase,
-    // the highest grant number obeyed
+    // the highest grant number obeyed; 0 before the first, which every grant is above, so no Option
     pub top: u32,
     pub pending: Option<Pending>,
     pub clock: ClockRow,
@@ -51,7 +51,7 @@ pub struct StationMoment {
     pub timers: StationTimers,
 }
 
-#[derive(Clone, Copy)]
+#[derive(Clone, Copy, PartialEq, Eq, Debug)]
 pub enum StationOutcome {
     // nothing was due
     Idle,
@@ -59,13 +59,9 @@ pub enum StationOutcome {
     Acted,
 }
 
-#[derive(Clone, Copy)]
-pub struct StationStep {
-    pub outcome: StationOutcome,
-    pub outbox: Outbox,
-}
+pub type StationStep = Step<StationOutcome>;
 
-#[derive(Clone, Copy)]
+#[derive(Clone, Copy, PartialEq, Eq, Debug)]
 pub enum StationRefusal {
     BrokenClock,
     // radio loss of a station that holds no talker

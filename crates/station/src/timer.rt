@@ -73,9 +73,7 @@ impl Station {
         if let Phase::Shut = self.phase {
             return false;
         }
-        let Some(mut clock) = Clock::from_row(self.clock, at.timers.period) else {
-            return false;
-        };
+        let mut clock = Clock::from_row(self.clock, at.timers.period).unwrap();
         if !clock.read(at.time) {
             return false;
         }

@@ -9,7 +9,8 @@ use carriers::{Carrier, Queue};
 use ether::Ether;
 use messages::Message;
 
-// Addresses, and who listens: the anchor, station 1, its cell, and mobile 1 in it.
+// Addresses, and who listens: the anchor, station 1, its cell, and mobile 1 in it. Numbers, since the steps in specs/Steps.antt name them:
+// with the calls of messages that answer these, tried, the proof did not close without two equations more for each hearing.
 const ANCHOR: u16 = 0;
 
 const STATION: u16 = 1;

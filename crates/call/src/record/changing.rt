@@ -15,7 +15,7 @@ impl GroupCall {
         self.time = time;
     }
 
-    // The last grant has this number. Nothing changes, and the answer is false, where the book has no such place.
+    // The last grant has this number. Nothing changes, and the answer is false, where the book has no such place, as a set's insert tells.
     pub fn number(&mut self, last: u32) -> bool
         ensures frame { frame_of self.new ≡ frame_of self.old }
         ensures numbered { self.new.last ≡ (if leb last self.old.places then last else self.old.last) }

@@ -1,6 +1,6 @@
 // Making and reading the record of a group call.
 ghost use Rattle.std.specs.Prelude.{◌≡◌, ◌≤◌, false, ◌&&◌, MatchOption};
-ghost use Rattle.call.specs.Openings.{between};
+ghost use Rattle.timing.specs.Limits.{within};
 ghost use Rattle.call.specs.Records.{frame_of};
 
 use super::super::settings::Settings;
@@ -16,7 +16,7 @@ impl GroupCall {
         stations: Stations,
         places: usize,
     ) -> Option<GroupCall>
-        ensures { MatchOption result ((between 1 200 mobiles && between 1 4096 places) ≡ false) (λ c. (frame_of c ≡ record { settings = settings; mobile_count = mobiles; station_count = stations.count; places = places }) × (c.last ≡ 0) × (c.time.ms ≡ 0)) }
+        ensures { MatchOption result ((within 1 200 mobiles && within 1 4096 places) ≡ false) (λ c. (frame_of c ≡ record { settings = settings; mobile_count = mobiles; station_count = stations.count; places = places }) × (c.last ≡ 0) × (c.time.ms ≡ 0)) }
     {
         if mobiles < 1 || mobiles > 200 || places < 1 || places > 4096 {
             return None;
@@ -27,7 +27,7 @@ impl GroupCall {
             stations,
             places,
             last: 0,
-            time: Time::new(0)?,
+            time: Time::new(0).unwrap(),
         })
     }
 

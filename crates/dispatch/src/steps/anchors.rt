@@ -4,8 +4,8 @@ ghost use Rattle.anchor.specs.Anchors.{floor_free, released};
 ghost use Rattle.call.specs.Effects.{by_anchor, effect_heard};
 ghost use Rattle.call.specs.Records.{frame_of};
 ghost use Rattle.call.specs.World.{tables_good};
-ghost use Rattle.dispatch.specs.Lent.{SameTables, lent};
-ghost use Rattle.dispatch.specs.Steps.{Stepped};
+ghost use Rattle.dispatch.specs.Lent.{lent};
+ghost use Rattle.dispatch.specs.Steps.{SteppedTo};
 
 use super::super::step::Step;
 use super::super::tables::LentTables;
@@ -14,7 +14,7 @@ use messages::Message;
 use schemes::RankScheme;
 use timing::Time;
 
-// Hears a station.
+// Hears a station. It requires `tables_good`, since no type holds the record and the tables together.
 pub(super) fn hear<S: RankScheme>(
     group: &mut GroupCall,
     tables: &mut LentTables<'_>,
@@ -23,9 +23,7 @@ pub(super) fn hear<S: RankScheme>(
     message: Message,
 ) -> Step
     requires good { tables_good (frame_of group.old) (lent group.old tables.old) ≡ true }
-    ensures frame { frame_of group.new ≡ frame_of group.old }
-    ensures stepped { Stepped (effect_heard (S.RankScheme.above scheme.now) (frame_of group.old) (Call.AnchorHears time.ms) (lent group.old tables.old) message) (lent group.new tables.new) result }
-    ensures same { SameTables tables.old tables.new }
+    ensures { SteppedTo (effect_heard (S.RankScheme.above scheme.now) (frame_of group.old) (Call.AnchorHears time.ms) (lent group.old tables.old) message) group.old tables.old group.new tables.new result }
 {
     let step = anchor::hear(tables.book, group.last(), message, group.stations(), scheme);
     group.number(step.last);
@@ -36,8 +34,7 @@ pub(super) fn hear<S: RankScheme>(
 // The floor is free, and every station is told.
 pub(super) fn release(group: &mut GroupCall, tables: &LentTables<'_>, time: Time) -> Step
     requires state { floor_free tables.now.book.now group.old.last ≡ true }
-    ensures frame { frame_of group.new ≡ frame_of group.old }
-    ensures stepped { Stepped (by_anchor time.ms (lent group.old tables.now) (released group.old.stations.count tables.now.book.now group.old.last)) (lent group.new tables.now) result }
+    ensures { SteppedTo (by_anchor time.ms (lent group.old tables.now) (released group.old.stations.count tables.now.book.now group.old.last)) group.old tables.now group.new tables.now result }
 {
     let answer = anchor::release(tables.book, group.last(), group.stations());
     group.accept(time);

@@ -1,13 +1,14 @@
-// The steps of mobiles. Each has a contract of its own; what they share is in `parts`. `Numbered` stands in each, since it speaks of a number and
-// of a table that another lends.
+// The steps of mobiles. Each has a contract of its own; what they share is in `parts`. `ask` and `finish` alone unwrap a Result: a helper that
+// takes the step as a closure, as in `stations`, would be longer than the lines that it saves. Each requires `Numbered`, since no type holds
+// the number beside the table: the number comes with the call, and the table is borrowed from its owner.
 ghost use Rattle.std.specs.Prelude.{◌≡◌, ◌<◌, true, length};
 ghost use Rattle.call.specs.Effects.{by_mobile, effect_alone, effect_heard};
 ghost use Rattle.call.specs.Records.{frame_of};
 ghost use Rattle.call.specs.World.{mobile_at};
 ghost use Rattle.mobile.specs.Steps.{mobile_listens, mobile_talks, finished};
 ghost use Rattle.dispatch.specs.Checks.{Numbered};
-ghost use Rattle.dispatch.specs.Lent.{SameTables, lent};
-ghost use Rattle.dispatch.specs.Steps.{Stepped};
+ghost use Rattle.dispatch.specs.Lent.{lent};
+ghost use Rattle.dispatch.specs.Steps.{SteppedTo};
 
 use super::super::step::Step;
 use super::super::tables::LentTables;
@@ -31,9 +32,7 @@ pub(super) fn ask<S: RankScheme>(
     requires party { Numbered mobile (length tables.old.mobiles.now) 200 }
     requires few { rank < 256 }
     requires state { mobile_listens (mobile_at (lent group.old tables.old) mobile) ≡ true }
-    ensures frame { frame_of group.new ≡ frame_of group.old }
-    ensures stepped { Stepped (effect_alone (S.RankScheme.above scheme.now) (frame_of group.old) (Call.Ask time.ms mobile reference rank) (lent group.old tables.old)) (lent group.new tables.new) result }
-    ensures same { SameTables tables.old tables.new }
+    ensures { SteppedTo (effect_alone (S.RankScheme.above scheme.now) (frame_of group.old) (Call.Ask time.ms mobile reference rank) (lent group.old tables.old)) group.old tables.old group.new tables.new result }
 {
     let at = mobile_moment(group, time);
     let request = TalkRequest {
@@ -54,9 +53,7 @@ pub(super) fn finish(
 ) -> Step
     requires party { Numbered mobile (length tables.old.mobiles.now) 200 }
     requires state { mobile_talks (mobile_at (lent group.old tables.old) mobile) ≡ true }
-    ensures frame { frame_of group.new ≡ frame_of group.old }
-    ensures stepped { Stepped (by_mobile time.ms mobile (lent group.old tables.old) (finished (mobile_at (lent group.old tables.old) mobile))) (lent group.new tables.new) result }
-    ensures same { SameTables tables.old tables.new }
+    ensures { SteppedTo (by_mobile time.ms mobile (lent group.old tables.old) (finished (mobile_at (lent group.old tables.old) mobile))) group.old tables.old group.new tables.new result }
 {
     let answer = tables.mobiles[mobile as usize - 1].finish();
     group.accept(time);
@@ -72,9 +69,7 @@ pub(super) fn hear<S: RankScheme>(
     message: Message,
 ) -> Step
     requires party { Numbered mobile (length tables.old.mobiles.now) 200 }
-    ensures frame { frame_of group.new ≡ frame_of group.old }
-    ensures stepped { Stepped (effect_heard (S.RankScheme.above scheme.now) (frame_of group.old) (Call.MobileHears time.ms mobile) (lent group.old tables.old) message) (lent group.new tables.new) result }
-    ensures same { SameTables tables.old tables.new }
+    ensures { SteppedTo (effect_heard (S.RankScheme.above scheme.now) (frame_of group.old) (Call.MobileHears time.ms mobile) (lent group.old tables.old) message) group.old tables.old group.new tables.new result }
 {
     let at = mobile_moment(group, time);
     let step = tables.mobiles[mobile as usize - 1].hear(message, at, scheme);
@@ -90,9 +85,7 @@ pub(super) fn timer<S: RankScheme>(
     mobile: u64,
 ) -> Step
     requires party { Numbered mobile (length tables.old.mobiles.now) 200 }
-    ensures frame { frame_of group.new ≡ frame_of group.old }
-    ensures stepped { Stepped (effect_alone (S.RankScheme.above scheme.now) (frame_of group.old) (Call.MobileTimer time.ms mobile) (lent group.old tables.old)) (lent group.new tables.new) result }
-    ensures same { SameTables tables.old tables.new }
+    ensures { SteppedTo (effect_alone (S.RankScheme.above scheme.now) (frame_of group.old) (Call.MobileTimer time.ms mobile) (lent group.old tables.old)) group.old tables.old group.new tables.new result }
 {
     let at = mobile_moment(group, time);
     let step = tables.mobiles[mobile as usize - 1].timer(at, scheme);

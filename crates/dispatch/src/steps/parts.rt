@@ -1,9 +1,8 @@
 // What the steps of the parties are made of.
 ghost use Rattle.std.specs.Prelude.{◌≡◌, ◌≤◌, true};
 ghost use Rattle.call.specs.Effects.{idle};
-ghost use Rattle.call.specs.Records.{frame_of};
 ghost use Rattle.dispatch.specs.Lent.{lent};
-ghost use Rattle.dispatch.specs.Steps.{Stepped};
+ghost use Rattle.dispatch.specs.Steps.{SteppedTo};
 
 use super::super::step::Step;
 use super::super::tables::LentTables;
@@ -40,8 +39,7 @@ pub(super) fn station_moment(group: &GroupCall, time: Time, station: u64) -> Sta
 
 // Nothing is heard or due.
 pub(super) fn stay_idle(group: &mut GroupCall, time: Time) -> Step
-    ensures frame { frame_of group.new ≡ frame_of group.old }
-    ensures stepped { (t : LentTables) → Stepped (idle time.ms (lent group.old t)) (lent group.new t) result }
+    ensures { (t : LentTables) → SteppedTo (idle time.ms (lent group.old t)) group.old t group.new t result }
 {
     group.accept(time);
     Step {

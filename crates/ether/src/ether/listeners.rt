@@ -1,11 +1,12 @@
 // The Ether's steps.
-ghost use Rattle.std.specs.Prelude.{◌≡◌, ◌≤◌, true, [], map, IfOk, MatchOption};
+ghost use Rattle.std.specs.Prelude.{◌≡◌, true, [], map, IfOk, MatchOption};
 ghost use Rattle.std.proofs.Common.{sym, subst, rules};
 ghost use Rattle.ether.specs.Ethers.{slots_of, message_in, with_newest, unheard, next_heard, after_hearing};
 ghost use Rattle.carriers.specs.Firsts.{Nowhere, FirstAt};
 ghost use Rattle.carriers.specs.Meaning.{Joined, Picked};
 ghost use Rattle.ether.specs.EtherCarrierLemmas.{joined_newest, picked};
 
+use super::super::listener::Listener;
 use super::super::slot::Slot;
 use super::Ether;
 use carriers::Carrier;
@@ -24,9 +25,8 @@ impl Ether {
     }
 
     // The place of the oldest message with the address that the listener has not heard.
-    fn place(&self, address: u16, listener: u16) -> Option<usize>
-        requires { listener ≤ 208 }
-        ensures { MatchOption result (Nowhere (unheard address listener) (slots_of self.now)) (λ i. FirstAt (unheard address listener) (slots_of self.now) i) }
+    fn place(&self, address: u16, listener: Listener) -> Option<usize>
+        ensures { MatchOption result (Nowhere (unheard address listener.number) (slots_of self.now)) (λ i. FirstAt (unheard address listener.number) (slots_of self.now) i) }
     {
         self.slots
             .iter()
@@ -59,9 +59,7 @@ impl Carrier for Ether {
 
     #[tactic(auto, using(crate::proofs::Hearing::heard_there, crate::proofs::Hearing::marked_there))]
     fn hear(&mut self, address: u16, listener: u16) -> Option<Message> {
-        if listener > 208 {
-            return None;
-        }
+        let listener = Listener::new(listener)?;
         let place = self.place(address, listener)?;
         let slot = &mut self.slots[place];
         slot.mark(listener);

@@ -39,7 +39,7 @@ impl Outbox {
         outbox
     }
 
-    // One more at the end, and true; where ten are there already, nothing, and false.
+    // One more at the end, and true; where ten are there already, nothing, and false, as a set's insert tells.
     pub fn push(&mut self, post: Post) -> bool
         ensures kept { result ≡ nat_lt (length (posts self.old)) 10 }
         ensures holds { posts self.new ≡ (if nat_lt (length (posts self.old)) 10 then posts self.old ++ post ∷ [] else posts self.old) }

@@ -11,7 +11,8 @@ use super::super::reading::read_line;
 use super::Reader;
 
 impl<'a> Reader<'a> {
-    // Before the first line, or of a text of more than 60,000 bytes before nothing but its fault.
+    // Before the first line. A text of more than 60,000 bytes gives only a fault: nothing of it is left to read, and line 0 is that of a
+    // text that is too long, as it is printed.
     pub fn new(text: &'a [u8]) -> Reader<'a>
         ensures { stand_of result ≡ first_stand text.now }
     {

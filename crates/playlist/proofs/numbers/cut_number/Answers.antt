@@ -3,15 +3,17 @@ use Rattle.playlist.specs.Scans.{digits_front}
 use Rattle.playlist.specs.Texts.{all_digits, has_shape, value_after}
 use Rattle.playlist.proofs.Parting.{bad_shape, field_length, front_digits, goes_on, good_number, length_front, some_number}
 use Rattle.playlist.proofs.numbers.cut_number.Goals as goal
+use Rattle.playlist.proofs.numbers.cut_number.Goals.{then-not-stops-via-then-not-stops, then-not-stops-via-else-not-stops+then-not-has_shape}
 
 pub returns-then-not-stops : goal.returns-then-not-stops
 returns-then-not-stops c =
-    goes_on c.args.bytes.now (length c.digits_front-digits.result.now) (ap length c.digits_front-digits.ensures) c.if-not-stops.ensures
-
-pub returns-then-not-has_shape : goal.returns-then-not-has_shape
-returns-then-not-has_shape c =
+    let bs = c.args.bytes.now in
     let is = c.digits_front-digits.ensures in
-    bad_shape c.args.bytes.now (length c.digits_front-digits.result.now) (ap length is) c.if-not-stops.ensures (c.if-not-has_shape.ensures ∙ ap has_shape is)
+    let len = length c.digits_front-digits.result.now in
+    elim c.then-not-stops.branch [
+      | then-not-stops-via-then-not-stops w ↦ goes_on bs len (ap length is) w.if-not-stops.ensures
+      | then-not-stops-via-else-not-stops+then-not-has_shape w ↦ bad_shape bs len (ap length is) w.if-not-stops.ensures (w.if-not-has_shape.ensures ∙ ap has_shape is)
+    ]
 
 pub value_of-requires-clause-all : goal.value_of-requires-clause-all
 value_of-requires-clause-all c = ap all_digits c.digits_front-digits.ensures ∙ front_digits c.args.bytes.now

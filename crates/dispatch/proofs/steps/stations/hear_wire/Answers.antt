@@ -1,9 +1,11 @@
+use Rattle.std.proofs.Common.{rules}
 use Rattle.call.specs.Records.{frame_of}
 use Rattle.dispatch.specs.Lent.{lent}
-use Rattle.dispatch.proofs.Clocks.{answered}
+use Rattle.dispatch.proofs.Clocks.{sound_there, answers_ok}
 use Rattle.dispatch.proofs.steps.stations.hear_wire.Goals as goal
 
-pub unwrap-requires : goal.unwrap-requires
-unwrap-requires c =
+pub take_step-requires-clause-refuses_nothing : goal.take_step-requires-clause-refuses_nothing
+take_step-requires-clause-refuses_nothing c row left at answer there gave =
     let group = c.args.group.now in
-    answered (frame_of group) (lent group c.args.tables.now) c.args.station c.requires.good c.station_moment-at.result.timers.period c.station_moment-at.ensures.timers.1 _ _ c.hear_wire-answer.result c.hear_wire-answer.ensures
+    let sound = sound_there (frame_of group) (lent group c.args.tables.now) c.args.station c.requires.good at.timers.period there.period row.now there.before in
+    search (rules, answers_ok)

@@ -7,5 +7,5 @@ use Rattle.ether.proofs.ether.Ether.place.Goals as goal
 
 pub returns : goal.returns
 returns c =
-    placed (unheard c.args.address c.args.listener) (slots_of c.args.self.now) _
+    placed (unheard c.args.address c.args.listener.number) (slots_of c.args.self.now) _
     (position_from_yields_List _ _ _ _ c.position.ensures.ran (YieldsList-from_deque (slots_of c.args.self.now) cc) (λ x b q k. search (rules, tests)))
