@@ -8,25 +8,25 @@ use mobile::{Attempt, Rejection};
 #[derive(Clone, Copy, PartialEq, Eq, Debug)]
 pub enum Refusal {
     // outside its limits, or after the opening of another length or with a broken notice clock
-    Table = 1,
+    Table,
     // an identity out of range or twice, or a mobile's station does not exist
-    Identity = 2,
+    Identity,
     // a period, timer, level or district outside its limits
-    Setting = 3,
+    Setting,
     // a carrier is not quiet at the opening
-    NotQuiet = 4,
+    NotQuiet,
     // no such mobile or station
-    NoParty = 5,
+    NoParty,
     // above 2^40, or before that of the last accepted call
-    Time = 6,
+    Time,
     // not below the count of ranks, or not allowed to the mobile
-    Rank = 7,
+    Rank,
     // ask when not listening, finish when not talking, radio loss when not Held, release when not free
-    State = 8,
+    State,
     // fewer answer places than calls
-    FewPlaces = 9,
+    FewPlaces,
     // a playlist that breaks its form
-    Form = 10,
+    Form,
 }
 
 #[derive(Clone, Copy, PartialEq, Eq, Debug, Default)]

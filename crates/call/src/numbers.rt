@@ -8,7 +8,7 @@ impl Refusal {
     pub fn number(self) -> u8
         ensures { result ≡ refusal_number self }
     {
-        self as u8
+        self as u8 + 1
     }
 }
 

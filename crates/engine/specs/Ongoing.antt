@@ -1,6 +1,6 @@
 -- What a call or a list of calls makes of a group call that goes on.
 -- Assumes nothing.
-use Rattle.std.specs.Prelude.{◌≡◌, ℕ, Bool, List, Option}
+use Rattle.std.specs.Prelude.{◌≡◌, ℕ, Bool, List, Option, slice_set}
 use Rattle.messages.specs.declared.message.Message.{Message}
 use Rattle.call.specs.declared.answer.Answer.{Answer}
 use Rattle.call.specs.declared.calls.Call.{Call}
@@ -41,6 +41,12 @@ module _
   abbrev pub MadeOn : (o : OngoingCall S A W) (call : Call) (answer : Answer) (o' : OngoingCall S A W) → Type 0
   MadeOn o call answer o' =
       Made air_says wire_says air_hears wire_hears (above o.scheme.now) ranks o.group.now (tables_in o) o.air.now o.wire.now call answer o'.group.now (tables_in o') o'.air.now o'.wire.now
+
+  -- one call of a list made, and its answer put at its place
+  pub record PlayedNext (o : OngoingCall S A W) (call : Call) (next : ℕ) (before after : List Answer) (o' : OngoingCall S A W) : Type 0 where
+    pub answer : Answer
+    pub made : MadeOn o call answer o'
+    pub put : after ≡ slice_set before next answer
 
   -- a list played
   abbrev pub PlayedOn : (o : OngoingCall S A W) (calls : List Call) (before after : List Answer) (o' : OngoingCall S A W) → Type 0

@@ -1,7 +1,7 @@
 // A list of calls, each on what the one before left.
 ghost use Rattle.std.specs.Prelude.{◌≡◌, ◌<◌, ◌≤◌, length, MatchResult};
 ghost use Rattle.call.specs.declared.answer.Refusal.TheVariants.{FewPlaces};
-ghost use Rattle.engine.specs.Ongoing.{PlayedOn, SameBorrows, SameWorldOn};
+ghost use Rattle.engine.specs.Ongoing.{PlayedNext, PlayedOn, SameBorrows, SameWorldOn};
 
 use super::calls::OngoingCall;
 use call::{Answer, Call, Refusal};
@@ -29,7 +29,16 @@ impl<S: RankScheme, A: Carrier, W: Carrier> OngoingCall<'_, '_, '_, S, A, W> {
     {
         // a zip with the places: tried, and the proof did not close
         for (next, call) in calls.iter().enumerate() {
-            answers[next] = self.make(call);
+            self.play_next(call, answers, next);
         }
+    }
+
+    // Makes a call, and puts its answer at its place.
+    fn play_next(&mut self, call: &Call, answers: &mut [Answer], next: usize)
+        requires { next < length answers.old }
+        ensures played { PlayedNext A.Carrier.says W.Carrier.says A.Carrier.hears W.Carrier.hears S.RankScheme.above S.RankScheme.count self.old call.now next answers.old answers.new self.new }
+        ensures same { SameBorrows self.old self.new }
+    {
+        answers[next] = self.make(call);
     }
 }

@@ -50,9 +50,9 @@ pub enum Kind {
 // Why a station gives up a grant.
 #[derive(Clone, Copy, PartialEq, Eq, Debug)]
 pub enum Cause {
-    CallControl = 1,
-    RadioMessageFailure = 2,
-    RadioFailure = 3,
+    CallControl,
+    RadioMessageFailure,
+    RadioFailure,
 }
 
 // One record for all kinds, since every rule reads its fields the same way whatever the kind; with fields in the kinds, each rule would take them
@@ -75,7 +75,7 @@ impl Cause {
     pub fn number(self) -> u8
         ensures { result ≡ cause_number self }
     {
-        self as u8
+        self as u8 + 1
     }
 }
 

@@ -45,9 +45,9 @@ pub enum State {
 
 #[derive(Clone, Copy, PartialEq, Eq, Debug)]
 pub enum Attempt {
-    First = 1,
-    Second = 2,
-    Third = 3,
+    First,
+    Second,
+    Third,
 }
 
 // What the mobile knows of the uplink.
@@ -63,12 +63,12 @@ pub enum Uplink {
 // Why the mobile gave up what its user asked for.
 #[derive(Clone, Copy, PartialEq, Eq, Debug)]
 pub enum Rejection {
-    WaitExpired = 1,
-    UplinkBusy = 2,
+    WaitExpired,
+    UplinkBusy,
     // after the third attempt
-    NoAnswer = 3,
-    GrantedToOther = 4,
-    LinkFailed = 5,
+    NoAnswer,
+    GrantedToOther,
+    LinkFailed,
 }
 
 #[derive(Clone, Copy, PartialEq, Eq, Debug)]
@@ -124,7 +124,8 @@ impl Attempt {
     pub fn number(self) -> u8
         ensures { result ≡ attempt_number self }
     {
-        self as u8
+        let before = self as u8;
+        before + 1
     }
 }
 
@@ -132,7 +133,7 @@ impl Rejection {
     pub fn cause(self) -> u8
         ensures { result ≡ rejection_cause self }
     {
-        self as u8
+        self as u8 + 1
     }
 }
 

@@ -1,8 +1,8 @@
 -- Lines and fields, cut from the bytes one after another.
 -- Assumes nothing.
-use Rattle.std.proofs.Common.{◌≡◌, ℕ, zero, suc, ◌+◌, ◌*◌, ◌^◌, ◌<◌, ◌≤◌, Bool, true, false, cond, not, ◌&&◌, ◌||◌, eqb, leb, List, [], ◌∷◌, ◌++◌, length, get_or, take, drop, Some, None, Option, sym, refl, ap, ◌∙◌, subst, ⊎_elim, pow-suc, add-one, arith}
+use Rattle.std.proofs.Common.{◌≡◌, ℕ, zero, suc, ◌+◌, ◌*◌, ◌^◌, ◌<◌, ◌≤◌, Bool, true, false, cond, not, ◌&&◌, ◌||◌, eqb, leb, List, [], ◌∷◌, ◌++◌, length, get_or, take, drop, Some, None, Option, sym, refl, ap, ◌∙◌, subst, ◌⊎◌, inl, inr, ⊎_elim, pow-suc, add-one, arith}
 use native.Mathlib.Nat.{pow-le-pow_right}
-use Rattle.std.proofs.lemmas.List.{append-nil, at_drop_all, at_drop_more, drop-drop, length-drop, nil_from_length}
+use Rattle.std.proofs.lemmas.List.{append-nil, at_drop_all, at_drop_more, drop-drop, length-drop, length-take-le, nil_from_length, take_all}
 use Rattle.std.proofs.lemmas.List.Recursion.{is_count_by, same_from_clauses}
 use Rattle.std.proofs.lemmas.List.Sums.{take_while-cons}
 use Rattle.std.specs.List.{count_by, take_while}
@@ -11,22 +11,21 @@ use Rattle.playlist.specs.Forms.{kind_named, letter}
 use Rattle.playlist.specs.Scans.{after_line, before, count_of, digits_front, fields_after, first_field, leading_line, is_stop}
 use Rattle.playlist.specs.Texts.{all_digits, fields, has_shape, is_digit, lines, number, onto_first, value_after}
 
--- the bytes before a mark, and the digits at the front, as the library has them
+-- the bytes before a mark, as the library has them
 pub before_is : (mark : ℕ) (bs : List ℕ) → before mark bs ≡ take_while (λ b. not (eqb b mark)) bs
 before_is mark =
     same_from_clauses (before mark) (take_while (λ b. not (eqb b mark))) (λ b ys. cond (not (eqb b mark)) (b ∷ ys) []) refl
     (λ b bs. elim (eqb b mark) as (λ (t : Bool). cond t [] (b ∷ before mark bs) ≡ cond (not t) (b ∷ before mark bs) []) [ true ↦ refl | false ↦ refl ])
     (take_while-cons (λ b. not (eqb b mark)))
 
-pub front_is : (bs : List ℕ) → digits_front bs ≡ take_while is_digit bs
-front_is =
-    same_from_clauses digits_front (take_while is_digit) (λ b ys. cond (is_digit b) (b ∷ ys) []) refl (λ b bs. refl) (take_while-cons is_digit)
-
 -- how often a mark comes
 pub count_is : (mark : ℕ) (bs : List ℕ) → count_of mark bs ≡ count_by (λ b. eqb b mark) bs
 count_is mark =
     is_count_by (count_of mark) (λ b. eqb b mark) refl
     (λ b bs. elim (eqb b mark) as (λ (t : Bool). cond t 1 0 + count_of mark bs ≡ cond t (1 + count_of mark bs) (count_of mark bs)) [ true ↦ refl | false ↦ omega arith ])
+
+pub tabs_are : (text : List ℕ) → count_of 9 (leading_line text) ≡ count_by (λ b. eqb b 9) (take_while (λ b. not (eqb b 10)) text)
+tabs_are text = count_is 9 (leading_line text) ∙ ap (count_by (λ b. eqb b 9)) (before_is 10 text)
 
 pub length_before : (mark : ℕ) (bs : List ℕ) → length (before mark bs) ≤ length bs
 length_before mark [] = omega arith
@@ -78,18 +77,6 @@ pub digit_bounds : (b : ℕ) → true ≡ is_digit b → (48 ≤ b) × (b ≤ 57
 digit_bounds b e =
     let p = and_parts (leb 48 b) (leb b 57) (sym e) in
     (leb-true 48 b p.0, leb-true b 57 p.1)
-
--- the digits from a place on
-module _ (ds : List ℕ) (i : ℕ) (l : i < length ds) (all : all_digits (drop i ds) ≡ true) where
-  here_and_on : (is_digit (get_or ds i 0) ≡ true) × (all_digits (drop (i + 1) ds) ≡ true)
-  here_and_on =
-      and_parts (is_digit (get_or ds i 0)) (all_digits (drop (i + 1) ds)) (sym (at_drop_more all_digits ds i 0 l) ∙ all)
-
-  pub digit_here : (48 ≤ get_or ds i 0) × (get_or ds i 0 ≤ 57)
-  digit_here = digit_bounds (get_or ds i 0) (sym here_and_on.0)
-
-  pub digits_on : all_digits (drop (i + 1) ds) ≡ true
-  digits_on = here_and_on.1
 
 -- one digit more, while there are at most thirteen
 pub one_more_digit : (n i d : ℕ) → n < 10 ^ i → d ≤ 9 → n * 10 + d < 10 ^ (i + 1)
@@ -169,6 +156,12 @@ front_more b bs is = cond-true (is_digit b) (b ∷ digits_front bs) [] is
 front_none : (b : ℕ) (bs : List ℕ) → is_digit b ≡ false → digits_front (b ∷ bs) ≡ []
 front_none b bs is = cond-false (is_digit b) (b ∷ digits_front bs) [] is
 
+pub front_on : (bs : List ℕ) (i : ℕ) → i < length bs → true ≡ is_digit (get_or bs i 0) → digits_front (drop i bs) ≡ get_or bs i 0 ∷ digits_front (drop (i + 1) bs)
+front_on bs i l is = at_drop_more digits_front bs i 0 l ∙ front_more (get_or bs i 0) (drop (i + 1) bs) (sym is)
+
+pub front_here : (bs : List ℕ) (i : ℕ) → i < length bs → false ≡ is_digit (get_or bs i 0) → digits_front (drop i bs) ≡ []
+front_here bs i l is = at_drop_more digits_front bs i 0 l ∙ front_none (get_or bs i 0) (drop (i + 1) bs) (sym is)
+
 abbrev Split : List ℕ → List ℕ → Type 0
 Split bs d = first_field bs ≡ d ++ first_field (drop (length d) bs)
 
@@ -218,6 +211,52 @@ not_all_digits (b ∷ d) x ys is = and_right (is_digit b) (all_digits (d ++ x �
 no_number : (f : List ℕ) → (has_shape f && all_digits f) ≡ false → number f ≡ None
 no_number f e = cond-false (has_shape f && all_digits f) (Some (value_after 0 f)) None e
 
+-- at most fourteen of the digits at the front have their shape
+pub front_taken : (n : ℕ) (bs : List ℕ) → digits_front (take n bs) ≡ take n (digits_front bs)
+front_taken zero bs = refl
+front_taken (suc n) [] = refl
+front_taken (suc n) (b ∷ bs) =
+    elim (is_digit b) as (λ (t : Bool). cond t (b ∷ digits_front (take n bs)) [] ≡ take (suc n) (cond t (b ∷ digits_front bs) [])) [
+      | true ↦ ap (λ (xs : List ℕ). b ∷ xs) (front_taken n bs)
+      | false ↦ refl
+    ]
+
+pub front_prefix : (n : ℕ) (bs : List ℕ) → take (length (take n (digits_front bs))) bs ≡ take n (digits_front bs)
+front_prefix zero bs = refl
+front_prefix (suc n) [] = refl
+front_prefix (suc n) (b ∷ bs) =
+    elim (is_digit b) as (λ (t : Bool). take (length (take (suc n) (cond t (b ∷ digits_front bs) []))) (b ∷ bs) ≡ take (suc n) (cond t (b ∷ digits_front bs) [])) [
+      | true ↦ ap (λ (xs : List ℕ). b ∷ xs) (front_prefix n bs)
+      | false ↦ refl
+    ]
+
+long_shape : (field : List ℕ) → 13 < length field → has_shape field ≡ false
+long_shape f more =
+    and_left (leb 1 (length f) && leb (length f) 13) (eqb (length f) 1 || not (eqb (get_or f 0 0) 48))
+    (and_right (leb 1 (length f)) (leb (length f) 13) (lt-leb (length f) 13 more))
+
+short_or_long : (ds : List ℕ) → (take 14 ds ≡ ds) ⊎ ((has_shape (take 14 ds) ≡ false) × (has_shape ds ≡ false))
+short_or_long ds =
+    ⊎_elim
+    (λ (t : leb (length ds) 14 ≡ true). inl (take_all 14 ds (leb-true (length ds) 14 t)))
+    (λ (t : leb (length ds) 14 ≡ false).
+    let more : 14 < length ds = leb-false (length ds) 14 t in
+    inr (long_shape (take 14 ds) (omega (arith, length-take-le 14 ds (omega arith))), long_shape ds (omega arith)))
+    (cases_Bool (leb (length ds) 14))
+
+-- by fourteen of them, whether all have the shape
+pub shape_taken : (ds : List ℕ) → has_shape (take 14 ds) ≡ has_shape ds
+shape_taken ds =
+    ⊎_elim (λ (t : take 14 ds ≡ ds). ap has_shape t)
+    (λ (t : (has_shape (take 14 ds) ≡ false) × (has_shape ds ≡ false)). t.0 ∙ sym t.1)
+    (short_or_long ds)
+
+pub all_taken : (ds : List ℕ) → true ≡ has_shape (take 14 ds) → take 14 ds ≡ ds
+all_taken ds is =
+    ⊎_elim (λ (t : take 14 ds ≡ ds). t)
+    (λ (t : (has_shape (take 14 ds) ≡ false) × (has_shape ds ≡ false)). absurd (false≢true (sym t.0 ∙ sym is)))
+    (short_or_long ds)
+
 abbrev pub some_number : ℕ → Option ℕ
 some_number n = Some n
 
@@ -265,6 +304,13 @@ module _ (bs : List ℕ) where
     good_number is =
         ap number all_of_it
         ∙ cond-true (has_shape d && all_digits d) (Some (value_after 0 d)) None (and_from (has_shape d) (all_digits d) (sym is) (front_digits bs))
+
+-- no number where the digits at the front have not the shape, whatever follows them
+pub no_shape : (bs : List ℕ) → false ≡ has_shape (digits_front bs) → number (first_field bs) ≡ None
+no_shape bs is =
+    let len = length (digits_front bs) in
+    let stop = leb (length bs) len || is_stop (get_or bs len 0) in
+    ⊎_elim (λ (t : stop ≡ true). bad_shape bs len refl (sym t) is) (λ (t : stop ≡ false). goes_on bs len refl (sym t)) (cases_Bool stop)
 
 -- the letter
 field_kind : (text : List ℕ) → kind_named (get_or (fields (leading_line text)) 0 []) ≡ kind_named (first_field text)

@@ -57,6 +57,21 @@ same_records : (r : Records) (e : Entry) (x : Result (List Entry) Fault) → col
 same_records r e (Ok entries) = refl
 same_records r e (Err fault) = refl
 
+module _ (s s' : Stand) (e : Entry) (is : Ok (Some e) ≡ next_entry s) (on : s' ≡ next_stand s) where
+  pub read_one : reading_on s ≡ put_first e (reading_on s')
+  read_one =
+      good_next s.line s.place e s.left (sym is) ∙ ap (λ (x : Stand). put_first e (reading_on x)) (sym on)
+
+  pub one_less : length s'.left < length s.left
+  one_less = omega (arith, ap (λ (x : Stand). length x.left) on, shorter_next s.line s.place e s.left (sym is))
+
+  pub fault_goes_on : fault_in (reading_on s') ≡ fault_in (reading_on s)
+  fault_goes_on = sym (ap fault_in read_one ∙ same_fault e (reading_on s'))
+
+  pub records_go_on : (r r' : Records) → r' ≡ after r e → collected_in r' (reading_on s') ≡ collected_in r (reading_on s)
+  records_go_on r r' put =
+      ap (λ (x : Records). collected_in x (reading_on s')) put ∙ same_records r e (reading_on s') ∙ sym (ap (collected_in r) read_one)
+
 -- the end, and a fault
 module _ (n : ℕ) (place : Place) where
   end_may : (may : Bool) → ends n may ≡ Ok None → cond may (Ok []) (fault_at n) ≡ Ok []
@@ -83,34 +98,36 @@ module _ (n : ℕ) (place : Place) where
   fault_next fault [] is = short_may fault (may_end place) is
   fault_next fault (l ∷ ls) is = bad_line fault (λ (p : Place). reading_from (n + 1) p ls) (judged place l) is
 
+pub read_end : (s : Stand) → Ok None ≡ next_entry s → reading_on s ≡ Ok []
+read_end s is = end_next s.line s.place s.left (sym is)
+
+pub read_fault : (s : Stand) (fault : Fault) → Err fault ≡ next_entry s → reading_on s ≡ Err fault
+read_fault s fault is = fault_next s.line s.place fault s.left (sym is)
+
 -- what the code gave at a stand
 module _ (r : Result (Option Line) Fault) (s : Stand) (gave : told r ≡ next_entry s) where
-  pub read_end : r ≡ Ok None → reading_on s ≡ Ok []
-  read_end is = end_next s.line s.place s.left (sym gave ∙ ap told is)
+  pub gave_end : r ≡ Ok None → reading_on s ≡ Ok []
+  gave_end is = read_end s (sym (ap told is) ∙ gave)
 
-  pub read_fault : (fault : Fault) → r ≡ Err fault → reading_on s ≡ Err fault
-  read_fault fault is = fault_next s.line s.place fault s.left (sym gave ∙ ap told is)
+  pub gave_fault : (fault : Fault) → r ≡ Err fault → reading_on s ≡ Err fault
+  gave_fault fault is = read_fault s fault (sym (ap told is) ∙ gave)
 
   -- a line, and the stand after it
   module _ (s' : Stand) (on : s' ≡ next_stand s) (line : Line) (is : r ≡ Ok (Some line)) where
-    this_line : next_entry s ≡ Ok (Some (meant line))
-    this_line = sym gave ∙ ap told is
+    this_line : Ok (Some (meant line)) ≡ next_entry s
+    this_line = sym (ap told is) ∙ gave
 
-    pub read_one : reading_on s ≡ put_first (meant line) (reading_on s')
-    read_one =
-        good_next s.line s.place (meant line) s.left this_line ∙ ap (λ (x : Stand). put_first (meant line) (reading_on x)) (sym on)
+    pub line_read : reading_on s ≡ put_first (meant line) (reading_on s')
+    line_read = read_one s s' (meant line) this_line on
 
-    pub one_less : length s'.left < length s.left
-    one_less = omega (arith, ap (λ (x : Stand). length x.left) on, shorter_next s.line s.place (meant line) s.left this_line)
+    pub line_less : length s'.left < length s.left
+    line_less = one_less s s' (meant line) this_line on
 
-    pub fault_goes_on : fault_in (reading_on s') ≡ fault_in (reading_on s)
-    fault_goes_on = sym (ap fault_in read_one ∙ same_fault (meant line) (reading_on s'))
+    pub line_fault_goes_on : fault_in (reading_on s') ≡ fault_in (reading_on s)
+    line_fault_goes_on = fault_goes_on s s' (meant line) this_line on
 
-    pub records_go_on : (q q' : Records) → q' ≡ after q (meant line) → collected_in q' (reading_on s') ≡ collected_in q (reading_on s)
-    records_go_on q q' put =
-        ap (λ (x : Records). collected_in x (reading_on s')) put
-        ∙ same_records q (meant line) (reading_on s')
-        ∙ sym (ap (collected_in q) read_one)
+    pub line_records_go_on : (q q' : Records) → q' ≡ after q (meant line) → collected_in q' (reading_on s') ≡ collected_in q (reading_on s)
+    line_records_go_on = records_go_on s s' (meant line) this_line on
 
 -- the whole text is what a new reader has left
 pub reading_first : (text : List ℕ) → reading_on (first_stand text) ≡ reading text

@@ -1,7 +1,9 @@
 // Scans of a text's bytes.
-ghost use Rattle.std.specs.Prelude.{◌≡◌, ◌≤◌, true, ◌||◌, length, drop, ◌==◌, nat_le, slice_index};
+ghost use Rattle.std.specs.Prelude.{◌≡◌, ◌≤◌, ◌||◌, length, take, drop, ◌==◌, nat_le, slice_index};
 ghost use Rattle.playlist.specs.Scans.{count_of, digits_front, is_stop, leading_line};
-ghost use Rattle.playlist.specs.Texts.{all_digits, value_after};
+ghost use Rattle.playlist.specs.Texts.{value_after};
+
+use super::parsed::Parsed;
 
 // The first line.
 pub(crate) fn first_line(text: &[u8]) -> &[u8]
@@ -11,36 +13,37 @@ pub(crate) fn first_line(text: &[u8]) -> &[u8]
     &text[..len]
 }
 
-// How many tabs.
-#[tactic(auto, using(crate::proofs::Parting::count_is))]
-pub(crate) fn tabs(bytes: &[u8]) -> usize
-    ensures { result ≡ count_of 9 bytes.now }
+// How many tabs the first line has.
+pub(crate) fn tabs(text: &[u8]) -> usize
+    ensures { result ≡ count_of 9 (leading_line text.now) }
 {
-    bytes.iter().filter(|byte| **byte == b'\t').count()
+    text.iter()
+        .take_while(|byte| **byte != b'\n')
+        .filter(|byte| **byte == b'\t')
+        .count()
 }
 
-// The digits at the front.
-pub(crate) fn digits_front(bytes: &[u8]) -> &[u8]
-    ensures { result.now ≡ digits_front bytes.now }
+// What the digits at the front write, and what follows them: fourteen digits at most, since a number has thirteen. One loop for both, since a
+// scan and then a pass for the value take a third more time.
+pub(crate) fn digits_front(bytes: &[u8]) -> Parsed<'_, u64>
+    ensures value { result.value ≡ value_after 0 (take 14 (digits_front bytes.now)) }
+    ensures rest { result.rest.now ≡ drop (length (take 14 (digits_front bytes.now))) bytes.now }
 {
-    let len = bytes
-        .iter()
-        .take_while(|byte| byte.is_ascii_digit())
-        .count();
-    &bytes[..len]
-}
-
-// What at most thirteen digits write.
-pub(crate) fn value_of(digits: &[u8]) -> u64
-    requires few { length digits.now ≤ 13 }
-    requires all { all_digits digits.now ≡ true }
-    ensures { result ≡ value_after 0 digits.now }
-{
+    let front = &bytes[..bytes.len().min(14)];
     let mut value = 0;
-    for digit in digits {
-        value = value * 10 + u64::from(*digit - b'0');
+    for (i, byte) in front.iter().enumerate() {
+        if !byte.is_ascii_digit() {
+            return Parsed {
+                value,
+                rest: skip(bytes, i),
+            };
+        }
+        value = value * 10 + u64::from(*byte - b'0');
     }
-    value
+    Parsed {
+        value,
+        rest: skip(bytes, front.len()),
+    }
 }
 
 // Whether a field ends before the byte at the place: a tab, byte 10 or the end is there.

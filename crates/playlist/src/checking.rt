@@ -15,10 +15,15 @@ pub fn check(text: &[u8]) -> Option<Fault>
     read_through(Reader::new(text)).err()
 }
 
-// Reads all lines, up to a fault.
+// Reads all lines, up to a fault. A match, for the time that `Reader::next` tells of.
 fn read_through(mut reader: Reader<'_>) -> Result<(), Fault>
     ensures { result_err result ≡ fault_in (reading_on (stand_of reader.entry)) }
 {
-    while let Some(_line) = reader.next()? {}
-    Ok(())
+    loop {
+        match reader.next() {
+            Ok(Some(_line)) => {}
+            Ok(None) => return Ok(()),
+            Err(fault) => return Err(fault),
+        }
+    }
 }

@@ -11,16 +11,20 @@ use call::SettingNumbers;
 use std::alloc::{AllocError, Global};
 
 // The records of the text, or its first fault. Memory is asked for once for each list, for as many as the text has room for.
+// A match, for the time that `Reader::next` tells of.
 #[tactic(auto, using(crate::proofs::Standings::reading_first))]
 pub fn read(heap: Global, text: &[u8]) -> Result<Playlist, ReadError>
     ensures { ReadAs (playlist_of text.now) result }
 {
     let mut playlist = empty(heap, text.len())?;
     let mut reader = Reader::new(text);
-    while let Some(line) = reader.next()? {
-        put(&mut playlist, line)?;
+    loop {
+        match reader.next() {
+            Ok(Some(line)) => put(&mut playlist, line)?,
+            Ok(None) => return Ok(playlist),
+            Err(fault) => return Err(ReadError::from(fault)),
+        }
     }
-    Ok(playlist)
 }
 
 // No records yet, and room for those of a text of so many bytes: a call has at least four, a mobile eight.

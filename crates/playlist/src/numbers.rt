@@ -1,35 +1,35 @@
 // The numbers of a line.
-ghost use Rattle.std.specs.Prelude.{◌≡◌, ◌≤◌, not, ◌&&◌, ◌||◌, [], length, take, drop, if◌then◌else◌, Some, None, Ok, Err, MatchOption, MatchResult, ◌==◌, nat_eq, nat_le, slice_index};
+ghost use Rattle.std.specs.Prelude.{◌≡◌, ◌&&◌, ◌||◌, [], length, take, drop, if◌then◌else◌, Some, None, Ok, Err, MatchOption, MatchResult, ◌==◌, nat_eq};
 ghost use Rattle.playlist.specs.Entries.{counted, number_in};
 ghost use Rattle.playlist.specs.Forms.{number_count};
 ghost use Rattle.playlist.specs.Meanings.{field_of};
 ghost use Rattle.playlist.specs.Scans.{after_line, fields_after, first_field, leading_line};
 ghost use Rattle.playlist.specs.Texts.{has_shape, number};
 
-use super::bytes::{at_line_end, digits_front, first_line, rest, skip, stops, tabs, value_of};
+use super::bytes::{at_line_end, digits_front, rest, stops, tabs};
 use super::kind::Kind;
 use super::letters::{limit, number_count};
 use super::line_fault::LineFault;
 use super::parsed::Parsed;
-use arrayvec::ArrayVec;
 
-// The numbers in order, as many as the kind asks for, and the text from the byte that ends the line on; or the fault. `line` is what
-// follows the letter.
+// The numbers in order, as many of the five as the kind asks for, and the text from the byte that ends the line on; or the fault. `line` is
+// what follows the letter. An array, since a Vec would allocate for each line and an ArrayVec would be one crate more to trust.
 pub(crate) fn read_numbers<'a>(
     kind: Kind,
     line: &'a [u8],
-) -> Result<Parsed<'a, ArrayVec<u64, 5>>, LineFault>
+) -> Result<Parsed<'a, [u64; 5]>, LineFault>
     requires { first_field line.now ≡ [] }
-    ensures { MatchResult result (λ ns. (counted kind (fields_after (leading_line line.now)) ≡ Ok ns.value.items) × (length ns.value.items ≡ number_count kind) × (ns.rest.now ≡ after_line line.now)) (λ fault. counted kind (fields_after (leading_line line.now)) ≡ Err (field_of fault)) }
+    ensures { MatchResult result (λ ns. (counted kind (fields_after (leading_line line.now)) ≡ Ok (take (number_count kind) ns.value)) × (ns.rest.now ≡ after_line line.now)) (λ fault. counted kind (fields_after (leading_line line.now)) ≡ Err (field_of fault)) }
 {
-    let mut values = ArrayVec::new();
+    let mut values = [0; 5];
     let mut left = line;
-    for field in 2..2 + number_count(kind) {
+    for i in 0..number_count(kind) {
         if at_line_end(left) {
             return Err(LineFault::Form);
         }
+        let field = i + 2;
         let number = read_number(kind, field, left).ok_or_else(|| bad_number(kind, field, line))?;
-        values.push(number.value);
+        values[i as usize] = number.value;
         left = number.rest;
     }
     if !at_line_end(left) {
@@ -46,7 +46,7 @@ fn bad_number(kind: Kind, field: u8, line: &[u8]) -> LineFault
     requires { first_field line.now ≡ [] }
     ensures { field_of result ≡ (if nat_eq (length (fields_after (leading_line line.now))) (number_count kind) then field else 0) }
 {
-    if tabs(first_line(line)) == usize::from(number_count(kind)) {
+    if tabs(line) == usize::from(number_count(kind)) {
         LineFault::Number(field)
     } else {
         LineFault::Form
@@ -65,13 +65,11 @@ fn cut_number<'a>(bytes: &'a [u8]) -> Option<Parsed<'a, u64>>
     ensures { MatchOption result (number (first_field bytes.now) ≡ None) (λ n. (number (first_field bytes.now) ≡ Some n.value) × (n.rest.now ≡ drop (length (first_field bytes.now)) bytes.now)) }
 {
     let digits = digits_front(bytes);
-    if !stops(bytes, digits.len()) || !has_shape(digits) {
+    let len = bytes.len() - digits.rest.len();
+    if !has_shape(&bytes[..len]) || !stops(bytes, len) {
         return None;
     }
-    Some(Parsed {
-        value: value_of(digits),
-        rest: skip(bytes, digits.len()),
-    })
+    Some(digits)
 }
 
 // Whether there are 1 to 13, of which the first is 0 only where it is the only one.

@@ -1,7 +1,7 @@
 // A line read at its place.
 ghost use Rattle.std.specs.Prelude.{◌≡◌, ◌<◌, true, [], ◌∷◌, length, drop, is_some, Some, Ok, Err, MatchResult, slice_index, slice_index_or};
 ghost use Rattle.playlist.specs.Entries.{entry_in, judged};
-ghost use Rattle.playlist.specs.Forms.{InLimits, call_numbers, call_of, entry_of, kind_named, number_count};
+ghost use Rattle.playlist.specs.Forms.{InLimits, call_of, entry_of, kind_named};
 ghost use Rattle.playlist.specs.Meanings.{field_of, good_of, meant};
 ghost use Rattle.playlist.specs.Scans.{after_line, first_field, leading_line};
 ghost use Rattle.playlist.specs.Texts.{fields, lines};
@@ -78,10 +78,9 @@ fn read_kind<'a>(kind: Kind, text: &'a [u8]) -> Result<Parsed<'a, Line<'a>>, Lin
     })
 }
 
-// No From: the numbers are as many as the kind asks for, and within its limits.
-fn line_of<'a>(kind: Kind, values: &[u64]) -> Line<'a>
-    requires count { length values.now ≡ number_count kind }
-    requires limits { InLimits kind values.now }
+// No From: the numbers are within the kind's limits.
+fn line_of<'a>(kind: Kind, values: &[u64; 5]) -> Line<'a>
+    requires { InLimits kind values.now }
     ensures { meant result ≡ entry_of kind values.now }
 {
     match kind {
@@ -107,10 +106,9 @@ fn line_of<'a>(kind: Kind, values: &[u64]) -> Line<'a>
     }
 }
 
-// No From, as at `line_of`: the numbers are as many as the kind asks for, and within its limits.
-fn call_of(kind: CallKind, values: &[u64]) -> Call
-    requires count { length values.now ≡ call_numbers kind }
-    requires limits { InLimits (Kind.Call kind) values.now }
+// No From, as at `line_of`.
+fn call_of(kind: CallKind, values: &[u64; 5]) -> Call
+    requires { InLimits (Kind.Call kind) values.now }
     ensures { result ≡ call_of kind values.now }
 {
     let time = values[0];

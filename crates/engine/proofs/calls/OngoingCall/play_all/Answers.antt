@@ -7,9 +7,11 @@ loop-next-init g c = record { played = none_played _ _ _ _ _ _ _ _ _ _ _; same =
 
 pub loop-next-preserved : goal.loop-next-preserved
 loop-next-preserved g c =
+    let next = c.play_next.ensures.played in
     record {
       played =
-          one_more _ _ _ _ _ _ c.args.calls.now c.loop-next.answers c.loop-next.next _ c.make.result c.loop-next-test.true (omega arith) c.loop-next.invariant.played
-          (rw c.loop-next.invariant.same.scheme at c.make.ensures.made);
+          rw next.put
+          (one_more _ _ _ _ _ _ c.args.calls.now c.loop-next.answers c.loop-next.next _ next.answer c.loop-next-test.true (omega arith) c.loop-next.invariant.played
+          (rw c.loop-next.invariant.same.scheme at next.made));
       same = search rules;
     }
