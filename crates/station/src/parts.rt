@@ -1,5 +1,5 @@
 // Parts of a station's steps: what is read from its row, and what a step says.
-ghost use Rattle.std.specs.Prelude.{◌≡◌, ◌≤◌, true, false, [], length, MatchResult};
+ghost use Rattle.std.specs.Prelude.{◌≡◌, true, false, [], ◌∷◌, ◌++◌, MatchResult};
 ghost use Rattle.messages.specs.Posts.{posts};
 ghost use Rattle.station.specs.Stations.{leaving, pending_is, sound_clock};
 ghost use Rattle.station.specs.declared.row.StationOutcome.TheVariants.{Ignored, Acted};
@@ -57,15 +57,31 @@ impl Station {
             .is_some_and(|pair| pair.reference == reference && pair.rank == rank)
     }
 
-    // The RELEASE that leaving Granted or Held says.
-    pub(crate) fn leaving(&self, number: u8) -> Outbox
-        ensures { (posts result ≡ leaving number self.now.phase self.now.top) × (length (posts result) ≤ 1) }
+    // A post, after the RELEASE that leaving Granted or Held says. Both are put in at once: where RELEASE alone was given and the post pushed
+    // after it, hearing SEIZED took twice the time.
+    pub(crate) fn leaving_then(&self, number: u8, post: Post) -> Outbox
+        ensures { posts result ≡ leaving number self.now.phase self.now.top ++ post ∷ [] }
     {
         match self.phase {
-            Phase::Granted { .. } | Phase::Held { .. } => Outbox::one(Post::Air(Message::release(
-                number, self.top,
-            ))),
-            _ => Outbox::new(),
+            Phase::Granted { .. } | Phase::Held { .. } => Outbox::two(
+                Post::Air(Message::release(number, self.top)),
+                post,
+            ),
+            _ => Outbox::one(post),
+        }
+    }
+
+    // The same with two posts.
+    pub(crate) fn leaving_then_two(&self, number: u8, first: Post, second: Post) -> Outbox
+        ensures { posts result ≡ leaving number self.now.phase self.now.top ++ first ∷ second ∷ [] }
+    {
+        match self.phase {
+            Phase::Granted { .. } | Phase::Held { .. } => Outbox::three(
+                Post::Air(Message::release(number, self.top)),
+                first,
+                second,
+            ),
+            _ => Outbox::two(first, second),
         }
     }
 }

@@ -53,9 +53,8 @@ impl Station {
     {
         let rank = message.rank;
         let grant = Message::grant(at.number, message.reference, rank, message.grant);
-        let mut outbox = self.leaving(at.number);
-        outbox.push(Post::Air(grant));
-        outbox.push(Post::Air(Message::busy(at.number, rank)));
+        let busy = Message::busy(at.number, rank);
+        let outbox = self.leaving_then_two(at.number, Post::Air(grant), Post::Air(busy));
         let deadline = at.time.ms() + at.timers.link.ms();
         self.pending = None;
         self.enter(Phase::Granted { rank, deadline }, message.grant, at);
@@ -67,8 +66,7 @@ impl Station {
     {
         let cause = Cause::RadioMessageFailure;
         let indication = Message::release_indication(number, message.grant, cause);
-        let mut outbox = self.leaving(number);
-        outbox.push(Post::Wire(indication));
+        let outbox = self.leaving_then(number, Post::Wire(indication));
         self.phase = Phase::Closing {
             rank: message.rank,
             cause,
@@ -84,8 +82,7 @@ impl Station {
         if grant <= self.top {
             return ignored();
         }
-        let mut outbox = self.leaving(at.number);
-        outbox.push(Post::Air(Message::busy(at.number, rank)));
+        let outbox = self.leaving_then(at.number, Post::Air(Message::busy(at.number, rank)));
         self.enter(Phase::Seized { rank }, grant, at);
         acted(outbox)
     }
@@ -100,8 +97,7 @@ impl Station {
             self.top = message.grant;
             return acted(Outbox::new());
         }
-        let mut outbox = self.leaving(at.number);
-        outbox.push(Post::Air(Message::free(at.number)));
+        let outbox = self.leaving_then(at.number, Post::Air(Message::free(at.number)));
         self.enter(Phase::Free, message.grant, at);
         acted(outbox)
     }
